@@ -1,0 +1,35 @@
+-- Angles and levels (document 01, "Angles and grid"). Assumes nothing.
+use Prim.Native.Nat.{ℕ, _-_, _*_}
+use mathlib.Core.Bool.{cond}
+use mathlib.Core.List.{List, [], _∷_}
+use lib.Dec.{ltb}
+use lib.ListN.{getD}
+
+-- One second is 2,048 u, one minute 122,880 u, one degree 7,372,800 u
+abbrev pub second : ℕ
+second = 2048
+
+abbrev pub minute : ℕ
+minute = 60 * second
+
+abbrev pub degree : ℕ
+degree = 60 * minute
+
+-- Latitude is 0 to 663,552,000 and longitude 0 to 1,327,104,000, ends included
+abbrev pub latEnd : ℕ
+latEnd = 90 * degree
+
+abbrev pub lonEnd : ℕ
+lonEnd = 180 * degree
+
+-- Nominal cell sizes in u: level 9, levels 10 to 15, 16 to 21, 22 to 27
+abbrev pub sizes : List ℕ
+sizes =
+    7372800
+    ∷ 3932160 ∷ 1966080 ∷ 983040 ∷ 491520 ∷ 245760 ∷ 122880
+    ∷ 65536 ∷ 32768 ∷ 16384 ∷ 8192 ∷ 4096 ∷ 2048
+    ∷ 1024 ∷ 512 ∷ 256 ∷ 128 ∷ 64 ∷ 32 ∷ []
+
+-- The nominal size of a level, 0 for what is no level from 9 to 27
+unfoldable pub sizeOf : ℕ → ℕ
+sizeOf level = cond (ltb level 9) 0 (getD sizes (level - 9) 0)

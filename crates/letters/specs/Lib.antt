@@ -1,0 +1,4 @@
+pub mod Alphabet
+pub mod Digits
+pub mod Letters
+pub mod Words
