@@ -1,0 +1,51 @@
+//! The judge: a second program written from document 01 alone, against which
+//! the verified program is compared. This file reads the command line.
+
+mod boundary;
+mod code;
+mod grid;
+mod lines;
+mod plain;
+mod quick;
+mod trials;
+mod unit;
+
+use std::io::{self, BufWriter, ErrorKind, Write};
+use std::process::ExitCode;
+
+const USAGE: &str = "usage: judge listing | trials";
+
+fn main() -> ExitCode {
+    let words = std::env::args_os().skip(1);
+    // A word that is no text is no command's.
+    let words: Option<Vec<String>> = words.map(|word| word.into_string().ok()).collect();
+    let words = words.unwrap_or_default();
+    let words: Vec<&str> = words.iter().map(String::as_str).collect();
+    match run(&words) {
+        Ok(Some(true)) => ExitCode::SUCCESS,
+        Ok(Some(false)) => ExitCode::FAILURE,
+        Ok(None) => complain(USAGE),
+        // Whoever read the output has seen enough.
+        Err(error) if error.kind() == ErrorKind::BrokenPipe => ExitCode::SUCCESS,
+        Err(error) => complain(&format!("judge: {error}")),
+    }
+}
+
+/// Says on standard error what is wrong; a closed one is no matter.
+fn complain(what: &str) -> ExitCode {
+    let _ = writeln!(io::stderr(), "{what}");
+    ExitCode::from(2)
+}
+
+/// Runs a command: whether all was good, or none for no such command.
+fn run(words: &[&str]) -> io::Result<Option<bool>> {
+    let input = io::stdin().lock();
+    let output = &mut BufWriter::new(io::stdout().lock());
+    let good = match words {
+        ["listing"] => lines::listing(input, output).map(|()| true),
+        ["trials"] => trials::trials(input, output).map(|()| true),
+        _ => return Ok(None),
+    }?;
+    output.flush()?;
+    Ok(Some(good))
+}
