@@ -75,6 +75,11 @@ pub struct Cell {
 }
 
 impl Cell {
+    /// The cell of a level that has the point in it or on its south or west side.
+    pub fn at(level: u8, point: Point) -> Cell {
+        Cell { level, lat: stretch_at(level, point.lat), lon: stretch_at(level, point.lon) }
+    }
+
     pub fn centre(&self) -> Point {
         Point { lat: self.lat.halfway(), lon: self.lon.halfway() }
     }

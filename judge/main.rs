@@ -2,6 +2,7 @@
 //! the verified program is compared. This file reads the command line.
 
 mod boundary;
+mod cases;
 mod code;
 mod grid;
 mod lines;
@@ -13,7 +14,7 @@ mod unit;
 use std::io::{self, BufWriter, ErrorKind, Write};
 use std::process::ExitCode;
 
-const USAGE: &str = "usage: judge listing | trials";
+const USAGE: &str = "usage: judge listing | trials | cases";
 
 fn main() -> ExitCode {
     let words = std::env::args_os().skip(1);
@@ -44,6 +45,7 @@ fn run(words: &[&str]) -> io::Result<Option<bool>> {
     let good = match words {
         ["listing"] => lines::listing(input, output).map(|()| true),
         ["trials"] => trials::trials(input, output).map(|()| true),
+        ["cases"] => cases::cases(output),
         _ => return Ok(None),
     }?;
     output.flush()?;
