@@ -2,19 +2,25 @@
 //! the verified program is compared. This file reads the command line.
 
 mod boundary;
+mod broken;
 mod cases;
 mod code;
 mod grid;
 mod lines;
 mod plain;
 mod quick;
+mod random;
+mod requests;
+mod shapes;
 mod trials;
 mod unit;
+mod units;
 
 use std::io::{self, BufWriter, ErrorKind, Write};
 use std::process::ExitCode;
 
-const USAGE: &str = "usage: judge listing | trials | cases";
+const USAGE: &str =
+    "usage: judge listing | trials | requests SEED COUNT [KINDS] | units SEED COUNT | cases";
 
 fn main() -> ExitCode {
     let words = std::env::args_os().skip(1);
@@ -46,6 +52,32 @@ fn run(words: &[&str]) -> io::Result<Option<bool>> {
         ["listing"] => lines::listing(input, output).map(|()| true),
         ["trials"] => trials::trials(input, output).map(|()| true),
         ["cases"] => cases::cases(output),
+        [command, seed, count, kinds @ ..] => match (seed.parse(), count.parse()) {
+            (Ok(seed), Ok(count)) => return run_seeded(command, seed, count, kinds, output),
+            _ => return Ok(None),
+        },
+        _ => return Ok(None),
+    }?;
+    output.flush()?;
+    Ok(Some(good))
+}
+
+fn run_seeded(
+    command: &str,
+    seed: u64,
+    count: u64,
+    kinds: &[&str],
+    output: &mut impl Write,
+) -> io::Result<Option<bool>> {
+    let good = match (command, kinds) {
+        ("requests", []) => {
+            requests::requests(seed, count, &requests::all_kinds(), output).map(|()| true)
+        }
+        ("requests", [list]) => match requests::kinds_of(list) {
+            Some(kinds) => requests::requests(seed, count, &kinds, output).map(|()| true),
+            None => return Ok(None),
+        },
+        ("units", []) => units::units(seed, count, output).map(|()| true),
         _ => return Ok(None),
     }?;
     output.flush()?;
