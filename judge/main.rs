@@ -1,6 +1,8 @@
 //! The judge: a second program written from document 01 alone, against which
 //! the verified program is compared. This file reads the command line.
 
+mod borders;
+mod borderunits;
 mod boundary;
 mod broken;
 mod cases;
@@ -19,8 +21,7 @@ mod units;
 use std::io::{self, BufWriter, ErrorKind, Write};
 use std::process::ExitCode;
 
-const USAGE: &str =
-    "usage: judge listing | trials | requests SEED COUNT [KINDS] | units SEED COUNT | cases";
+const USAGE: &str = "usage: judge listing | trials | requests SEED COUNT [KINDS] | borders [units | roads] | units SEED COUNT | cases";
 
 fn main() -> ExitCode {
     let words = std::env::args_os().skip(1);
@@ -51,6 +52,9 @@ fn run(words: &[&str]) -> io::Result<Option<bool>> {
     let good = match words {
         ["listing"] => lines::listing(input, output).map(|()| true),
         ["trials"] => trials::trials(input, output).map(|()| true),
+        ["borders"] => borders::borders(output).map(|()| true),
+        ["borders", "units"] => borderunits::border_units(output).map(|()| true),
+        ["borders", "roads"] => borderunits::border_roads(output).map(|()| true),
         ["cases"] => cases::cases(output),
         [command, seed, count, kinds @ ..] => match (seed.parse(), count.parse()) {
             (Ok(seed), Ok(count)) => return run_seeded(command, seed, count, kinds, output),
