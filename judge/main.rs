@@ -6,6 +6,7 @@ mod borderunits;
 mod boundary;
 mod broken;
 mod cases;
+mod changes;
 mod code;
 mod grid;
 mod lines;
@@ -21,7 +22,7 @@ mod units;
 use std::io::{self, BufWriter, ErrorKind, Write};
 use std::process::ExitCode;
 
-const USAGE: &str = "usage: judge listing | trials | requests SEED COUNT [KINDS] | borders [units | roads] | units SEED COUNT | cases";
+const USAGE: &str = "usage: judge listing | trials | requests SEED COUNT [KINDS] | borders [units | roads] | units SEED COUNT | changes SEED COUNT | cases";
 
 fn main() -> ExitCode {
     let words = std::env::args_os().skip(1);
@@ -82,6 +83,7 @@ fn run_seeded(
             None => return Ok(None),
         },
         ("units", []) => units::units(seed, count, output).map(|()| true),
+        ("changes", []) => changes::changes(seed, count, output).map(|()| true),
         _ => return Ok(None),
     }?;
     output.flush()?;
