@@ -14,6 +14,7 @@ mod plain;
 mod quick;
 mod random;
 mod requests;
+mod selftest;
 mod shapes;
 mod trials;
 mod unit;
@@ -22,7 +23,9 @@ mod units;
 use std::io::{self, BufWriter, ErrorKind, Write};
 use std::process::ExitCode;
 
-const USAGE: &str = "usage: judge listing | trials | requests SEED COUNT [KINDS] | borders [units | roads] | units SEED COUNT | changes SEED COUNT | cases";
+const USAGE: &str = "usage: judge listing | trials | requests SEED COUNT [KINDS] | \
+borders [units | roads] | agree SEED COUNT | units SEED COUNT | changes SEED COUNT | \
+cases | selftest";
 
 fn main() -> ExitCode {
     let words = std::env::args_os().skip(1);
@@ -57,6 +60,7 @@ fn run(words: &[&str]) -> io::Result<Option<bool>> {
         ["borders", "units"] => borderunits::border_units(output).map(|()| true),
         ["borders", "roads"] => borderunits::border_roads(output).map(|()| true),
         ["cases"] => cases::cases(output),
+        ["selftest"] => selftest::selftest(output),
         [command, seed, count, kinds @ ..] => match (seed.parse(), count.parse()) {
             (Ok(seed), Ok(count)) => return run_seeded(command, seed, count, kinds, output),
             _ => return Ok(None),
@@ -82,6 +86,7 @@ fn run_seeded(
             Some(kinds) => requests::requests(seed, count, &kinds, output).map(|()| true),
             None => return Ok(None),
         },
+        ("agree", []) => selftest::agree(seed, count, output),
         ("units", []) => units::units(seed, count, output).map(|()| true),
         ("changes", []) => changes::changes(seed, count, output).map(|()| true),
         _ => return Ok(None),
