@@ -1,0 +1,201 @@
+//! The judge's tests of itself: both searches agree, reading gives back what
+//! writing wrote, and what the document says of all codes and grounds.
+
+use std::collections::BTreeSet;
+use std::io::{self, Write};
+
+use crate::borders::borders;
+use crate::borderunits::border_roads;
+use crate::boundary::{meets, Edge, Extent};
+use crate::cases::cases;
+use crate::changes::pair;
+use crate::code::{self, letter_value, LENGTH, LETTERS};
+use crate::grid::{size, stretches, Cell, Point, Stretch, DEGREE, FINEST, MINUTE, STEP};
+use crate::quick;
+use crate::random::Random;
+use crate::requests::good_fields;
+use crate::shapes;
+use crate::trials::trials;
+use crate::unit::{self, Kind, Road, Unit};
+use crate::units::coordinates_of;
+
+/// Codes random small units by brute force and by the quick search; whether
+/// they agree on all.
+pub fn agree(seed: u64, count: u64, output: &mut impl Write) -> io::Result<bool> {
+    let mut random = Random::new(seed);
+    for _ in 0..count {
+        let (corners, plain) = shapes::small(&mut random);
+        let quick = quick::chosen(&corners);
+        if plain != quick {
+            writeln!(output, "corners {:?}", coordinates_of(&corners))?;
+            writeln!(output, "plain {plain:?}\nquick {quick:?}")?;
+            return Ok(false);
+        }
+    }
+    writeln!(output, "{count} agree")?;
+    Ok(true)
+}
+
+/// Runs every test; whether all are good.
+pub fn selftest(output: &mut impl Write) -> io::Result<bool> {
+    let mut good = cases(output)?;
+    good &= agree(1, 2_000, output)?;
+    let tests: [(&str, fn() -> bool); 8] = [
+        ("letters", letters_good),
+        ("grid", grid_good),
+        ("meeting", meeting_good),
+        ("reading what writing wrote", round_trip_good),
+        ("rectangles around units", rectangles_good),
+        ("changes of the same ground", changes_good),
+        ("borders of reading and writing", borders_good),
+        ("borders of coding by both roads", roads_good),
+    ];
+    for (name, test) in tests {
+        let passed = test();
+        writeln!(output, "{name} {}", if passed { "ok" } else { "FAILS" })?;
+        good &= passed;
+    }
+    Ok(good)
+}
+
+/// Thirty-two letters in rising order, without I, O, S and Z, each found back.
+fn letters_good() -> bool {
+    LETTERS.windows(2).all(|two| two[0] < two[1])
+        && (0..32).all(|value| letter_value(LETTERS[value]) == Some(value as u64))
+        && (0..=255u8).filter(|&byte| letter_value(byte).is_some()).count() == 32
+        && b"IOSZ".iter().all(|&byte| letter_value(byte).is_none())
+        && LETTERS[23] == b'P'
+}
+
+/// In a degree each level's stretches follow each other without a gap, halve
+/// at whole u, and only the six levels have cut ones.
+fn grid_good() -> bool {
+    (9..=FINEST).all(|level| {
+        let ground = if level <= 15 { DEGREE } else { MINUTE };
+        let all: Vec<Stretch> = stretches(level, 0, ground - 1, ground).collect();
+        let joined = all.windows(2).all(|two| two[0].to == two[1].from);
+        let whole =
+            all.first().map(|s| s.from) == Some(0) && all.last().map(|s| s.to) == Some(ground);
+        let halfway = all.iter().all(|s| {
+            let step = if level == FINEST { STEP / 2 } else { STEP };
+            (s.to - s.from) % 2 == 0 && (s.halfway() - s.from) % step == 0
+        });
+        let cut = all.iter().any(|s| s.to - s.from < size(level));
+        joined && whole && halfway && cut == [10, 11, 12, 16, 17, 18].contains(&level)
+    })
+}
+
+/// Meeting agrees with cutting the edge down to its part in the open cell.
+fn meeting_good() -> bool {
+    let mut random = Random::new(2);
+    (0..200_000).all(|_| {
+        let mut spot = || Point { lat: random.between(0, 9), lon: random.between(0, 9) };
+        let (a, b) = (spot(), spot());
+        let mut stretch = || {
+            let from = random.between(1, 7);
+            Stretch { from, to: from + random.between(1, 4) }
+        };
+        let cell = Cell { level: FINEST, lat: stretch(), lon: stretch() };
+        a == b || meets(&Edge { a, b }, &cell) == part_inside(a, b, &cell)
+    })
+}
+
+/// Whether some point a + t (b - a), t from 0 to 1, lies strictly in the cell;
+/// bounds of t are kept as fractions with a denominator above 0.
+fn part_inside(a: Point, b: Point, cell: &Cell) -> bool {
+    let (mut low, mut high) = (Vec::new(), Vec::new());
+    let lat = (a.lat, b.lat - a.lat, cell.lat);
+    let lon = (a.lon, b.lon - a.lon, cell.lon);
+    for (start, way, stretch) in [lat, lon] {
+        let (near, far) = (stretch.from - start, stretch.to - start);
+        match way.signum() {
+            0 if near >= 0 || far <= 0 => return false,
+            0 => {}
+            1 => {
+                low.push((near, way));
+                high.push((far, way));
+            }
+            _ => {
+                low.push((-far, -way));
+                high.push((-near, -way));
+            }
+        }
+    }
+    let less = |p: &(i64, i64), q: &(i64, i64)| p.0 * q.1 < q.0 * p.1;
+    // The ends 0 and 1 belong to the edge, the cell's sides not to its inside.
+    low.iter().all(|p| less(p, &(1, 1)) && high.iter().all(|q| less(p, q)))
+        && high.iter().all(|q| less(&(0, 1), q))
+}
+
+fn round_trip_good() -> bool {
+    let mut random = Random::new(3);
+    (0..20_000).all(|_| {
+        let fields = good_fields(&mut random);
+        let mut room = [0; LENGTH];
+        let written = code::write(&fields, &mut room);
+        written.is_ok() && code::read(&room).is_ok_and(|(read, _)| read == fields)
+    })
+}
+
+fn coded(corners: &[Point], room: &mut [u8]) -> Result<(), code::Refusal> {
+    let coordinates = coordinates_of(corners).into_iter().map(|c| c as u32).collect();
+    unit::code(&Unit { kind: Kind::Other, number: 0, coordinates }, room, Road::Quick)
+}
+
+/// Each side read back lies at or beyond the unit's extreme, by less than s.
+fn rectangles_good() -> bool {
+    let mut random = Random::new(4);
+    (0..5_000).all(|_| {
+        let (corners, _) = shapes::small(&mut random);
+        let mut room = [0; LENGTH];
+        if coded(&corners, &mut room).is_err() {
+            return true;
+        }
+        match (code::read(&room), Extent::of(&corners)) {
+            (Ok((fields, r)), Some(extent)) => {
+                let near = 0..size(fields.scale as u8);
+                near.contains(&(extent.west - r.west))
+                    && near.contains(&(r.east - extent.east))
+                    && near.contains(&(extent.south - r.south))
+                    && near.contains(&(r.north - extent.north))
+            }
+            _ => false,
+        }
+    })
+}
+
+/// The same ground has the same code or refusal.
+fn changes_good() -> bool {
+    let mut random = Random::new(5);
+    (0..3_000).all(|_| {
+        let (first, second) = pair(&mut random);
+        let (mut one, mut two) = ([0; LENGTH], [0; LENGTH]);
+        coded(&first, &mut one) == coded(&second, &mut two) && one == two
+    })
+}
+
+/// What the trials answer to a fixed list.
+fn answers(list: fn(&mut Vec<u8>) -> io::Result<()>) -> String {
+    let (mut requests, mut answers) = (Vec::new(), Vec::new());
+    // Writing into a Vec does not fail.
+    let _ = list(&mut requests).and_then(|()| trials(requests.as_slice(), &mut answers));
+    String::from_utf8_lossy(&answers).into_owned()
+}
+
+/// Whether the answers have just the wanted numbers.
+fn meet(answers: &str, wanted: &str) -> bool {
+    let met: BTreeSet<&str> = answers.lines().filter_map(|line| line.split(' ').next()).collect();
+    met == wanted.split(' ').collect()
+}
+
+/// The fixed requests meet every number of reading and writing, and `?`.
+fn borders_good() -> bool {
+    meet(&answers(borders), "? 0 11 12 13 14 15 16 17 18 21 22 23 24 25")
+}
+
+/// The fixed units meet every number of coding, the same by both roads.
+fn roads_good() -> bool {
+    let answers = answers(border_roads);
+    let all: Vec<&str> = answers.lines().collect();
+    meet(&answers, "0 1 2 3 4 5 6 7 8") && all.chunks(2).all(|two| two[0] == two[two.len() - 1])
+}
