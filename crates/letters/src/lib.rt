@@ -23,10 +23,10 @@ pub fn value_in(alphabet: &[u8], byte: u8) -> usize
 }
 
 // The value of a letter, 0 to 31, and 32 for a byte that is none.
-pub fn value(byte: u8) -> usize
+pub fn value(byte: u8) -> u32
     ensures { λ r. ⌜ r ≡ valueIn letters byte ⌝ }
 {
-    value_in(&LETTERS, byte)
+    value_in(&LETTERS, byte) as u32
 }
 
 // The place of the first byte that is no letter, or the text's length where each is one.

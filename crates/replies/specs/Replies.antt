@@ -1,7 +1,9 @@
 -- Replies (document 01, "Replies"): what an answer says, and a table of checks that run in order. Assumes nothing.
 use Prim.Native.Nat.{ℕ}
 use mathlib.Core.Bool.{Bool, cond}
-use mathlib.Core.List.{List, [], _∷_}
+use mathlib.Core.List.{List, [], _∷_, _++_}
+use lib.Dec.{eqb}
+use lib.ListN.{drop}
 
 -- What an answer says: a number, and a place counted from 0
 pub record Said : Type 0 where
@@ -34,3 +36,12 @@ check n b = check-at n b 0
 abbrev pub run : List Check → Said
 run [] = accepted
 run (c ∷ cs) = cond (c .refuses) (refused (c .number) (c .place)) (run cs)
+
+-- What coding or writing leaves: what it says, and the room
+pub record Outcome : Type 0 where
+  pub said : Said
+  pub room : List ℕ
+
+-- Acceptance writes bytes 0 to 19 of the output and no others; a refusal writes nothing
+abbrev pub outcome : Said → List ℕ → List ℕ → Outcome
+outcome said code room = record { said = said; room = cond (eqb (said .number) 0) (code ++ drop 20 room) room }

@@ -30,6 +30,9 @@ value-requires c κs = search needs
 abbrev byte : tie.After-value Inv-loop μ-loop → ℕ
 byte c = getD (c .before .before .before .before .before .args .text .now) (c .before .before .before .loop .i) 0
 
+cast-sum : tie.Need-cast-sum Inv-loop μ-loop
+cast-sum c = search needs
+
 add-sum : tie.Need-add-sum Inv-loop μ-loop
 add-sum c =
     let most : c .value .result ≤ 32 = subst (λ (n : ℕ). n ≤ 32) (sym (c .value .ensures)) (value-most letters (byte c)) in
@@ -57,6 +60,7 @@ number-spec =
     mul-sum
     shared-slice-read-value
     value-requires
+    cast-sum
     add-sum
     add-i
     loop-less

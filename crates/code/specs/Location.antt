@@ -1,0 +1,92 @@
+-- The location's bits (document 01, "Location, 11 characters"). Bits stand as numbers, high first. Assumes nothing.
+use Prim.Native.Nat.{ℕ, zero, suc, _+_, _-_, _*_, _/_, _%_, _^_, _≤_, _<_}
+use native.Mathlib.Nat.{pow-suc, pow-le-pow-right}
+use native.Mathlib.Numerals.{sub-one}
+use native.Mathlib.Omega.{arith}
+use mathlib.Core.Path.{_≡_, refl}
+use Rattle.ground.specs.declared.Point.{Point}
+use Rattle.ground.specs.Levels.{degree, minute, second}
+
+-- An angle's degrees, minutes, seconds and 64ths of a second
+abbrev pub degrees : ℕ → ℕ
+degrees a = a / degree
+
+abbrev pub minutes : ℕ → ℕ
+minutes a = a % degree / minute
+
+abbrev pub seconds : ℕ → ℕ
+seconds a = a % minute / second
+
+abbrev pub sixtyFourths : ℕ → ℕ
+sixtyFourths a = a % second / 32
+
+-- For each direction 27 bits: 9 for degrees, 6 for minutes, 6 for seconds, 6 for 64ths of a second
+unfoldable pub bitsOf : ℕ → ℕ
+bitsOf a = ((degrees a * 64 + minutes a) * 64 + seconds a) * 64 + sixtyFourths a
+
+-- The same parts in 27 bits; the first of the degree bits is the hemisphere
+abbrev pub degreesIn : ℕ → ℕ
+degreesIn bits = bits / 2 ^ 18
+
+abbrev pub minutesIn : ℕ → ℕ
+minutesIn bits = bits / 2 ^ 12 % 64
+
+abbrev pub secondsIn : ℕ → ℕ
+secondsIn bits = bits / 2 ^ 6 % 64
+
+abbrev pub sixtyFourthsIn : ℕ → ℕ
+sixtyFourthsIn bits = bits % 64
+
+abbrev pub hemisphereIn : ℕ → ℕ
+hemisphereIn bits = bits / 2 ^ 26
+
+-- The angle that 27 bits tell
+unfoldable pub angleIn : ℕ → ℕ
+angleIn bits = degreesIn bits * degree + minutesIn bits * minute + secondsIn bits * second + sixtyFourthsIn bits * 32
+
+-- The last n bits of two numbers, paired, the first's before the second's
+abbrev pub paired : ℕ → ℕ → ℕ → ℕ
+paired zero a b = 0
+paired (suc n) a b = paired n (a / 2) (b / 2) * 4 + a % 2 * 2 + b % 2
+
+-- The latter bit of each of the last n pairs
+abbrev pub latters : ℕ → ℕ → ℕ
+latters zero x = 0
+latters (suc n) x = latters n (x / 4) * 2 + x % 2
+
+-- The former bit of each
+abbrev pub formers : ℕ → ℕ → ℕ
+formers n x = latters n (x / 2)
+
+-- Bits are paired, latitude first, into 54; a 1 is added at the end
+unfoldable pub locationOf : Point → ℕ
+locationOf p = paired 27 (bitsOf (p .lat .0)) (bitsOf (p .lon .0)) * 2 + 1
+
+-- The laws of pairs: no bits, one bit more, and how large they are
+pub paired-none : (n a b : ℕ) → n ≡ 0 → paired n a b ≡ 0
+paired-none n a b e = rw e
+
+pub paired-more : (n a b : ℕ) → (n ≡ 0 → ⊥) → paired n a b ≡ paired (n - 1) (a / 2) (b / 2) * 4 + (a % 2 * 2 + b % 2)
+paired-more zero a b h = absurd (h refl)
+paired-more (suc n) a b h = rw sub-one (omega arith)
+
+pub latters-none : (n x : ℕ) → n ≡ 0 → latters n x ≡ 0
+latters-none n x e = rw e
+
+pub latters-more : (n x : ℕ) → (n ≡ 0 → ⊥) → latters n x ≡ latters (n - 1) (x / 4) * 2 + x % 2
+latters-more zero x h = absurd (h refl)
+latters-more (suc n) x h = rw sub-one
+
+paired-most : (n a b : ℕ) → paired n a b < 4 ^ n
+paired-most zero a b = omega arith
+paired-most (suc n) a b = rw pow-suc (omega (arith, paired-most n (a / 2) (b / 2)))
+
+latters-most : (n x : ℕ) → latters n x < 2 ^ n
+latters-most zero x = omega arith
+latters-most (suc n) x = rw pow-suc (omega (arith, latters-most n (x / 4)))
+
+pub paired-below : (n a b : ℕ) → n ≤ 27 → paired n a b < 2 ^ 54
+paired-below n a b h = omega (arith, paired-most n a b, pow-le-pow-right {n = 4} (omega arith) h)
+
+pub latters-below : (n x : ℕ) → n ≤ 27 → latters n x < 2 ^ 27
+latters-below n x h = omega (arith, latters-most n x, pow-le-pow-right {n = 2} (omega arith) h)
