@@ -1,6 +1,6 @@
 -- The twenty characters (document 01, "The twenty characters" and "Replies"): the code of fields, the rectangle, and what writing and
 -- reading answer. Assumes nothing.
-use Prim.Native.Nat.{ℕ, _+_, _-_, _*_, _/_, _%_, _^_, _<_, min}
+use Prim.Native.Nat.{ℕ, _+_, _-_, _*_, _/_, _%_, min}
 use mathlib.Core.Bool.{Bool, cond, not, _||_}
 use mathlib.Core.List.{List, [], _∷_, _++_, map}
 use lib.Dec.{eqb, leb, ltb}
@@ -12,7 +12,7 @@ use Rattle.ground.specs.declared.Point.{Point}
 use Rattle.ground.specs.declared.Rectangle.{Rectangle}
 use Rattle.ground.specs.Levels.{latEnd, lonEnd, sizeOf}
 use Rattle.letters.specs.Alphabet.{valueIn, letterIn, firstOther}
-use Rattle.letters.specs.Digits.{digits, valueFrom}
+use Rattle.letters.specs.Digits.{digits}
 use Rattle.letters.specs.Letters.{letters, numberIn}
 use Rattle.code.specs.declared.Fields.{Fields}
 use Rattle.code.specs.declared.Written.{Written}
@@ -20,26 +20,21 @@ use Rattle.code.specs.declared.Written.the-variants as written
 use Rattle.code.specs.declared.Reading.{Reading}
 use Rattle.code.specs.declared.Reading.the-variants as reads
 use Rattle.code.specs.Location.{
-  locationOf, formers, latters, angleIn, degreesIn, minutesIn, secondsIn, hemisphereIn}
+  locationOf,
+  formers,
+  latters,
+  angleIn,
+  degreesIn,
+  minutesIn,
+  secondsIn,
+  hemisphereIn,
+}
 
 -- Location, 11 characters; scale, 1; four spans, order E, W, S, N; unit number, 4, base 32, high first
 unfoldable pub valuesOf : Fields → List ℕ
 valuesOf f =
     digits 11 (locationOf (f .reference))
     ++ (f .scale ∷ f .east ∷ f .west ∷ f .south ∷ f .north ∷ digits 4 (f .number))
-
--- The scale, the spans and the unit number as one number of nine digits
-abbrev pub tailOf : Fields → ℕ
-tailOf f = valueFrom 0 (f .scale ∷ f .east ∷ f .west ∷ f .south ∷ f .north ∷ []) * 32 ^ 4 + f .number
-
--- Fields whose scale, spans and unit number are digits, and four of them
-pub record Tail (f : Fields) : Type 0 where
-  pub scale : f .scale < 32
-  pub east : f .east < 32
-  pub west : f .west < 32
-  pub south : f .south < 32
-  pub north : f .north < 32
-  pub number : f .number < 32 ^ 4
 
 -- The code of fields
 unfoldable pub codeOf : Fields → List ℕ
@@ -113,10 +108,10 @@ lonIn text = latters 27 (locationIn text / 2)
 abbrev pub valueAt : List ℕ → ℕ → ℕ
 valueAt text k = valueIn letters (getD text k 0)
 
--- The fields that a text tells
-unfoldable pub fieldsIn : List ℕ → Fields
-fieldsIn text = record {
-  reference = record { lat = record { 0 = angleIn (latIn text) }; lon = record { 0 = angleIn (lonIn text) } };
+-- The fields that a text and the bits of its two directions tell
+unfoldable pub fieldsFrom : List ℕ → ℕ → ℕ → Fields
+fieldsFrom text lat lon = record {
+  reference = record { lat = record { 0 = angleIn lat }; lon = record { 0 = angleIn lon } };
   scale = valueAt text 11;
   east = valueAt text 12;
   west = valueAt text 13;
@@ -125,9 +120,16 @@ fieldsIn text = record {
   number = numberIn letters (drop 16 text);
 }
 
+abbrev pub fieldsIn : List ℕ → Fields
+fieldsIn text = fieldsFrom text (latIn text) (lonIn text)
+
 -- Minutes or seconds above 59
 abbrev pub past59 : ℕ → Bool
 past59 bits = ltb 59 (minutesIn bits) || ltb 59 (secondsIn bits)
+
+-- E or N below 2, W or S below 1
+abbrev pub shortSpan : Fields → Bool
+shortSpan f = (ltb (f .east) 2 || ltb (f .north) 2) || (ltb (f .west) 1 || ltb (f .south) 1)
 
 -- Reading, 13 to 18: what the bits and the values of twenty letters tell
 unfoldable pub letterChecks : List ℕ → List Check
@@ -136,8 +138,8 @@ letterChecks text =
     ∷ check 14 (ltb 0 (hemisphereIn (latIn text)) || ltb 0 (hemisphereIn (lonIn text)))
     ∷ check 15 (ltb 89 (degreesIn (latIn text)) || ltb 179 (degreesIn (lonIn text)))
     ∷ check 16 (past59 (latIn text) || past59 (lonIn text))
-    ∷ check 17 (outside 14 27 (valueAt text 11))
-    ∷ check 18 (ltb (valueAt text 12) 2 || ltb (valueAt text 15) 2 || ltb (valueAt text 13) 1 || ltb (valueAt text 14) 1)
+    ∷ check 17 (outside 14 27 (fieldsIn text .scale))
+    ∷ check 18 (shortSpan (fieldsIn text))
     ∷ []
 
 -- Reading: 11 and 12, then the others
@@ -173,10 +175,13 @@ tellsNothing s = record {
   rectangle = record { west = record { 0 = 0 }; east = record { 0 = 0 }; south = record { 0 = 0 }; north = record { 0 = 0 } };
 }
 
+-- What a text tells by a table of checks
+abbrev pub readingOf : List Check → List ℕ → Told
+readingOf checks text = cond (eqb (run checks .number) 0) (tellsOf (fieldsIn text)) (tellsNothing (run checks))
+
 -- Reading, from a text to what it tells
 unfoldable pub reading : List ℕ → Told
-reading text =
-    cond (eqb (run (readChecks text) .number) 0) (tellsOf (fieldsIn text)) (tellsNothing (run (readChecks text)))
+reading text = readingOf (readChecks text) text
 
 -- The number, the place, the fields and the sides of each answer of reading
 abbrev pub tells : Reading → Told

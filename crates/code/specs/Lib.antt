@@ -1,3 +1,5 @@
 pub mod Location
 pub mod Code
+pub mod Inner
 pub mod Writing
+pub mod Reading

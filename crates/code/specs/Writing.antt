@@ -17,7 +17,8 @@ use Rattle.letters.specs.Digits.{digits, valueFrom, none, more, digits-are, dig
 use Rattle.letters.specs.Letters.{letters, spelledIn}
 use Rattle.code.specs.declared.Fields.{Fields}
 use Rattle.code.specs.Location.{locationOf}
-use Rattle.code.specs.Code.{valuesOf, codeOf, tailOf, Tail, outside, noReference, noPoint, noSpans, fieldChecks, writing}
+use Rattle.code.specs.Inner.{tailOf, Tail}
+use Rattle.code.specs.Code.{valuesOf, codeOf, outside, noReference, noPoint, noSpans, fieldChecks, writing}
 
 -- A number that is not outside a range is within it
 pub within : (least most x : ℕ) → outside least most x ≡ false → (least ≤ x) × (x ≤ most)
@@ -85,7 +86,7 @@ tail-digits f t =
     ap (digits 9) (sym (value-digits 4 v (f .number) (t .number)))
     ∙ digits-value 5 v (digits-are 4 (f .number))
     ∙ ap (λ (l : List ℕ). l ++ digits 4 (f .number))
-      (digits-value 0 0 (more (t .scale) (more (t .east) (more (t .west) (more (t .south) (more (t .north) none))))))
+    (digits-value 0 0 (more (t .scale) (more (t .east) (more (t .west) (more (t .south) (more (t .north) none))))))
 
 -- The code of such fields is the location and the nine digits spelled
 pub code-spelled : (f : Fields) → Tail f

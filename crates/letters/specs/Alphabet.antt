@@ -62,6 +62,7 @@ found-back (x ∷ xs) t (suc v) h =
   where
     once : valueIn xs x ≡ length xs
     once = eqb→eq (valueIn xs x) (length xs) (both-left (eqb (valueIn xs x) (length xs)) (distinct xs) t)
+
     at : (b : Bool) → eqb x (getD xs v 0) ≡ b → valueIn xs (getD xs v 0) ≡ v
         → cond b 0 (suc (valueIn xs (getD xs v 0))) ≡ suc v
     at true e ih = omega (arith, once, ap (valueIn xs) (eqb-true x (getD xs v 0) e))
@@ -78,4 +79,3 @@ spelled-back (x ∷ xs) b h = at (eqb x b) refl h (spelled-back xs b)
         → getD (x ∷ xs) (cond t 0 (suc (valueIn xs b))) 0 ≡ b
     at true e k ih = eqb-true x b e
     at false e k ih = ih (omega arith)
-

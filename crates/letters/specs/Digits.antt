@@ -1,6 +1,6 @@
 -- Numbers in base 32, high digit first; digits and number give each other back. Assumes nothing.
 use Prim.Native.Nat.{ℕ, zero, suc, _+_, _*_, _/_, _%_, _^_, _<_, _≤_}
-use native.Mathlib.Nat.{add-zero, pow-suc}
+use native.Mathlib.Nat.{add-zero, pow-suc, mul-le-mul-right}
 use native.Mathlib.Omega.{arith}
 use mathlib.Core.Path.{_≡_, refl, ap, ap₂, _∙_}
 use mathlib.Core.List.{List, [], _∷_, _++_, append-assoc, append-nil}
@@ -42,6 +42,13 @@ pub value-snoc : (x : ℕ) (ds : List ℕ) (d : ℕ) → valueFrom x (ds ++ (d �
 value-snoc x [] d = refl
 value-snoc x (e ∷ ds) d = value-snoc (x * 32 + e) ds d
 
+-- Digits after a number are below the next number's zeros
+value-below : (x : ℕ) {ds : List ℕ} → Digits ds → valueFrom x ds < (x + 1) * 32 ^ length ds
+value-below x none = omega arith
+value-below x (more {d} {ds} h r) =
+    let next : (x * 32 + d + 1) * 32 ^ length ds ≤ ((x + 1) * 32) * 32 ^ length ds = mul-le-mul-right (32 ^ length ds) (omega arith) in
+    rw pow-suc (omega (arith, value-below (x * 32 + d) r))
+
 -- The digits of a number that fits them make it again, after what stands before them
 pub value-digits : (n x y : ℕ) → y < 32 ^ n → valueFrom x (digits n y) ≡ x * 32 ^ n + y
 value-digits zero x y h = omega arith
@@ -60,3 +67,7 @@ digits-value m x (more {d} {ds} h r) =
     ∙ digits-value (suc m) (x * 32 + d) r
     ∙ ap₂ (λ (q r : ℕ). (digits m q ++ (r ∷ [])) ++ ds) high low
     ∙ append-assoc (digits m x) (d ∷ []) ds
+
+-- n digits make a number below 32 to the n
+pub value-most : {ds : List ℕ} → Digits ds → valueOf ds < 32 ^ length ds
+value-most r = omega (arith, value-below 0 r)

@@ -49,8 +49,8 @@ module _ {alphabet : List ℕ} where
       let a : ℕ = letterIn alphabet (rest % 32) in
       let h : j < length room = omega arith in
       let one : drop j (set room j a) ≡ a ∷ drop (suc j) room =
-          drop-cons (set room j a) j 0 (rw length-set h)
-          ∙ ap₂ _∷_ (getD-set-same room j a 0 h) (drop-set-lt (suc j) room j a (omega arith)) in
+      drop-cons (set room j a) j 0 (rw length-set h)
+      ∙ ap₂ _∷_ (getD-set-same room j a 0 h) (drop-set-lt (suc j) room j a (omega arith)) in
       record {
         long = length-set room j a ∙ s .long;
         within = omega arith;
@@ -86,11 +86,11 @@ module _ {alphabet text : List ℕ} where
       → Summing alphabet text (i + 1) ((sum % 2 ^ 55 * 32 + v) % 2 ^ 60)
   summing-again {i} {sum} {v} s h e =
       let one : numberIn alphabet (take (i + 1) text) ≡ numberIn alphabet (take i text) * 32 + v =
-          ap (λ (k : ℕ). numberIn alphabet (take k text)) (add-one i)
-          ∙ ap (numberIn alphabet) (take-suc text i 0 h)
-          ∙ ap valueOf (map-append (valueIn alphabet) (take i text) (getD text i 0 ∷ []))
-          ∙ value-snoc 0 (map (valueIn alphabet) (take i text)) (valueIn alphabet (getD text i 0))
-          ∙ ap (λ (n : ℕ). numberIn alphabet (take i text) * 32 + n) (sym e) in
+      ap (λ (k : ℕ). numberIn alphabet (take k text)) (add-one i)
+      ∙ ap (numberIn alphabet) (take-suc text i 0 h)
+      ∙ ap valueOf (map-append (valueIn alphabet) (take i text) (getD text i 0 ∷ []))
+      ∙ value-snoc 0 (map (valueIn alphabet) (take i text)) (valueIn alphabet (getD text i 0))
+      ∙ ap (λ (n : ℕ). numberIn alphabet (take i text) * 32 + n) (sym e) in
       record { within = omega arith; low = omega arith }
 
   pub summing-end : {i sum : ℕ} → Summing alphabet text i sum → length text ≤ i → sum ≡ numberIn alphabet text % 2 ^ 60

@@ -1,17 +1,17 @@
 -- Words: texts of letters alone. Spelling digits and reading a word give each other back, for any alphabet of 32 distinct letters.
 -- Assumes nothing.
-use Prim.Native.Nat.{ℕ, suc, _<_, _≤_}
+use Prim.Native.Nat.{ℕ, zero, suc, _^_, _<_, _≤_}
 use native.Mathlib.Omega.{arith}
 use mathlib.Core.Path.{_≡_, refl, ap, ap₂, _∙_, sym, subst}
 use mathlib.Core.Bool.{Bool, true, false, cond, not}
 use mathlib.Core.List.{List, [], _∷_, map}
 use lib.Dec.{T}
-use lib.ListN.{length}
+use lib.ListN.{length, getD, take, drop, length-map}
 use borrow.Author.Tests.{ltb-true, lt-ltb}
 use Rattle.replies.specs.Places.{first-most}
 use Rattle.letters.specs.Alphabet.{valueIn, letterIn, isLetter, firstOther, distinct, found-back, spelled-back}
-use Rattle.letters.specs.Digits.{Digits, none, more}
-use Rattle.letters.specs.Letters.{letters}
+use Rattle.letters.specs.Digits.{Digits, none, more, value-most}
+use Rattle.letters.specs.Letters.{letters, numberIn}
 
 -- Each byte of a text is a letter
 pub data Word (alphabet : List ℕ) : List ℕ → Type 0 where
@@ -47,6 +47,28 @@ module _ {alphabet : List ℕ} where
   pub word-digits : length alphabet ≡ 32 → {s : List ℕ} → Word alphabet s → Digits (map (valueIn alphabet) s)
   word-digits e empty = none
   word-digits e (letter {b} h w) = more {d = valueIn alphabet b} (omega arith) (word-digits e w)
+
+  -- A part of a word is a word
+  pub word-take : (n : ℕ) {s : List ℕ} → Word alphabet s → Word alphabet (take n s)
+  word-take zero w = empty
+  word-take (suc n) empty = empty
+  word-take (suc n) (letter h w) = letter h (word-take n w)
+
+  pub word-drop : (n : ℕ) {s : List ℕ} → Word alphabet s → Word alphabet (drop n s)
+  word-drop zero w = w
+  word-drop (suc n) empty = empty
+  word-drop (suc n) (letter h w) = word-drop n w
+
+  -- A letter of a word is below the alphabet's length
+  pub word-value : {s : List ℕ} → Word alphabet s → (k : ℕ) → k < length s → valueIn alphabet (getD s k 0) < length alphabet
+  word-value empty k h = let none : ⊥ = omega arith in absurd none
+  word-value (letter v w) zero h = v
+  word-value (letter v w) (suc k) h = word-value w k (omega arith)
+
+  -- A word of n letters spells a number below 32 to the n
+  pub word-number : length alphabet ≡ 32 → {s : List ℕ} → Word alphabet s → numberIn alphabet s < 32 ^ length s
+  word-number e {s} w =
+      subst (λ (n : ℕ). numberIn alphabet s < 32 ^ n) (length-map s (valueIn alphabet)) (value-most (word-digits e w))
 
 module _ (alphabet : List ℕ) (once : T (distinct alphabet)) (long : length alphabet ≡ 32) where
   -- The values of the letters of digits are the digits

@@ -19,13 +19,13 @@ pair-requires c κs = search needs
 mul-result : tie.Need-mul-result
 mul-result c =
     let below : c .pair .result < 2 ^ 54 =
-        subst (λ (k : ℕ). k < 2 ^ 54) (sym (c .pair .ensures)) (paired-below 27 (c .before .before .bits-of .result) (c .before .bits-of2 .result) (omega arith)) in
+    subst (λ (k : ℕ). k < 2 ^ 54) (sym (c .pair .ensures)) (paired-below 27 (c .before .before .bits-of .result) (c .before .bits-of2 .result) (omega arith)) in
     omega arith
 
 add-result : tie.Need-add-result
 add-result c =
     let below : c .pair .result < 2 ^ 54 =
-        subst (λ (k : ℕ). k < 2 ^ 54) (sym (c .pair .ensures)) (paired-below 27 (c .before .before .bits-of .result) (c .before .bits-of2 .result) (omega arith)) in
+    subst (λ (k : ℕ). k < 2 ^ 54) (sym (c .pair .ensures)) (paired-below 27 (c .before .before .bits-of .result) (c .before .bits-of2 .result) (omega arith)) in
     omega arith
 
 returns : tie.Need-returns

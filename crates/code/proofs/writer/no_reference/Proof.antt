@@ -1,7 +1,7 @@
--- `code::no_reference` meets its contract: the first test decides, or the second. Assumes nothing.
+-- `code::writer::no_reference` meets its contract: the first test decides, or the second. Assumes nothing.
 use borrow.Author.Tests.{eq-eqb, ne-eqb}
-use Rattle.code.proofs.no_reference.Statement.{statement}
-use Rattle.code.proofs.no_reference.Tie as tie
+use Rattle.code.proofs.writer.no_reference.Statement.{statement}
+use Rattle.code.proofs.writer.no_reference.Tie as tie
 
 returns : tie.Need-returns
 returns c = rw (ne-eqb _ _ (c .if1 .taken))

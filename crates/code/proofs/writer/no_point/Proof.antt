@@ -1,8 +1,8 @@
--- `code::no_point` meets its contract: the latitude decides, or the longitude. Assumes nothing.
+-- `code::writer::no_point` meets its contract: the latitude decides, or the longitude. Assumes nothing.
 use mathlib.Core.Path.{sym, _∙_}
 use borrow.Author.Needs.{needs}
-use Rattle.code.proofs.no_point.Statement.{statement}
-use Rattle.code.proofs.no_point.Tie as tie
+use Rattle.code.proofs.writer.no_point.Statement.{statement}
+use Rattle.code.proofs.writer.no_point.Tie as tie
 
 no-reference-requires : tie.Need-no-reference-requires
 no-reference-requires c κs = search needs

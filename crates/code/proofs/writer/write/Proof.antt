@@ -1,4 +1,4 @@
--- `code::write` meets its contract: each refusal is the first check that refuses, and the code is two numbers spelled. Assumes nothing.
+-- `code::writer::write` meets its contract: each refusal is the first check that refuses, and the code is two numbers spelled. Assumes nothing.
 use Prim.Native.Nat.{ℕ}
 use mathlib.Core.List.{List, _++_}
 use mathlib.Core.Path.{_≡_, ap, ap₂, sym, _∙_}
@@ -7,14 +7,15 @@ use mathlib.Core.Bool.{false}
 use lib.Dec.{ltb}
 use lib.ListN.{length, drop}
 use lib.Seq.{length-take-le}
-use Rattle.code.specs.Code.{writing, fieldChecks, noPoint, noSpans, outside, Tail, tailOf, leaves}
+use Rattle.code.specs.Code.{writing, fieldChecks, noPoint, noSpans, outside, leaves}
+use Rattle.code.specs.Inner.{Tail, tailOf}
 use Rattle.code.specs.declared.Written.the-variants.{Accepted}
 use Rattle.code.specs.Location.{locationOf}
 use Rattle.letters.specs.Letters.{letters, spelledIn}
 use Rattle.code.specs.Writing.{good, good-tail, writing-accepted, room-after, part-after, code-spelled}
 use borrow.Author.Needs.{needs}
-use Rattle.code.proofs.write.Statement.{statement}
-use Rattle.code.proofs.write.Tie as tie
+use Rattle.code.proofs.writer.write.Statement.{statement}
+use Rattle.code.proofs.writer.write.Tie as tie
 
 -- what the checks have said where each is passed
 long : (c : tie.Else1) → ltb (length (c .before .before .args .room .now)) 20 ≡ false
@@ -122,12 +123,12 @@ returns-6 c =
     let s : List ℕ = c7 .spell .last .0 in
     let t : List ℕ = c .before .before .spell2 .last .0 in
     let first : s ≡ spelledIn letters 11 (locationOf (a .fields .reference)) =
-        c7 .spell .ensures
-        ∙ ap₂ (spelledIn letters) (length-take-le 11 (a .room .now) (search needs)) (c7 .before .location-of .ensures) in
+    c7 .spell .ensures
+    ∙ ap₂ (spelledIn letters) (length-take-le 11 (a .room .now) (search needs)) (c7 .before .location-of .ensures) in
     let eleven : length s ≡ 11 = ap length first in
     let last : t ≡ spelledIn letters 9 (tailOf (a .fields)) =
-        c .before .before .spell2 .ensures
-        ∙ ap₂ (spelledIn letters) (part-after (a .room .now) s eleven (search needs)) (c .before .before .before .tail .ensures) in
+    c .before .before .spell2 .ensures
+    ∙ ap₂ (spelledIn letters) (part-after (a .room .now) s eleven (search needs)) (c .before .before .before .tail .ensures) in
     ap (leaves Accepted)
     (room-after (a .room .now) s t eleven
     ∙ ap₂ (λ (x y : List ℕ). (x ++ y) ++ drop 20 (a .room .now)) first last

@@ -1,8 +1,8 @@
--- `code::no_spans` meets its contract: a test that holds decides, and the last decides where the others fail. Assumes nothing.
+-- `code::writer::no_spans` meets its contract: a test that holds decides, and the last decides where the others fail. Assumes nothing.
 use mathlib.Core.Path.{sym, _∙_}
 use borrow.Author.Needs.{needs}
-use Rattle.code.proofs.no_spans.Statement.{statement}
-use Rattle.code.proofs.no_spans.Tie as tie
+use Rattle.code.proofs.writer.no_spans.Statement.{statement}
+use Rattle.code.proofs.writer.no_spans.Tie as tie
 
 outside-requires : tie.Need-outside-requires
 outside-requires c κs = search needs
@@ -28,20 +28,22 @@ returns-3 c =
     let east = c .before .before .before .before .before in
     let north = c .before .before .before in
     rw (
-    c .if3 .taken,
-    sym (east .outside .ensures) ∙ c .before .before .before .before .if1 .left,
-    sym (north .outside2 .ensures) ∙ c .before .before .if2 .left,
-    sym (c .before .outside3 .ensures) ∙ c .if3 .taken)
+      c .if3 .taken,
+      sym (east .outside .ensures) ∙ c .before .before .before .before .if1 .left,
+      sym (north .outside2 .ensures) ∙ c .before .before .if2 .left,
+      sym (c .before .outside3 .ensures) ∙ c .if3 .taken,
+    )
 
 returns-4 : tie.Need-returns-4
 returns-4 c =
     let east = c .before .before .before .before .before .before in
     let north = c .before .before .before .before in
     rw (
-    c .outside4 .ensures,
-    sym (east .outside .ensures) ∙ c .before .before .before .before .before .if1 .left,
-    sym (north .outside2 .ensures) ∙ c .before .before .before .if2 .left,
-    sym (c .before .before .outside3 .ensures) ∙ c .before .if3 .left)
+      c .outside4 .ensures,
+      sym (east .outside .ensures) ∙ c .before .before .before .before .before .if1 .left,
+      sym (north .outside2 .ensures) ∙ c .before .before .before .if2 .left,
+      sym (c .before .before .outside3 .ensures) ∙ c .before .if3 .left,
+    )
 
 pub no-spans-spec : {M : Type 1} → statement M
 no-spans-spec =
