@@ -3,3 +3,4 @@ pub mod Code
 pub mod Inner
 pub mod Writing
 pub mod Reading
+pub mod Reverse

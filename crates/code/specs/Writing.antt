@@ -7,9 +7,9 @@ use mathlib.Core.List.{List, [], _∷_, _++_, map, map-append, append-assoc}
 use lib.Dec.{eqb, leb, ltb}
 use lib.ListN.{length, take, drop, length-drop}
 use lib.Seq.{length-take-le, take-at, drop-at, drop-drop}
-use borrow.Author.Tests.{ltb-false, leb-false, eqb-true, not-false}
-use Rattle.replies.specs.Replies.{accepted}
-use Rattle.replies.specs.Tests.{neither}
+use borrow.Author.Tests.{ltb-false, leb-false, eqb-true, not-false, eq-eqb, le-ltb, lt-leb}
+use Rattle.replies.specs.Replies.{Said, accepted}
+use Rattle.replies.specs.Tests.{neither, none-of, passed}
 use Rattle.ground.specs.declared.Point.{Point}
 use Rattle.ground.specs.Levels.{latEnd, lonEnd}
 use Rattle.letters.specs.Alphabet.{letterIn}
@@ -18,7 +18,7 @@ use Rattle.letters.specs.Letters.{letters, spelledIn}
 use Rattle.code.specs.declared.Fields.{Fields}
 use Rattle.code.specs.Location.{locationOf}
 use Rattle.code.specs.Inner.{tailOf, Tail}
-use Rattle.code.specs.Code.{valuesOf, codeOf, outside, noReference, noPoint, noSpans, fieldChecks, writing}
+use Rattle.code.specs.Code.{valuesOf, codeOf, outside, noReference, noPoint, noSpans, fieldChecks, writeChecks, writing}
 
 -- A number that is not outside a range is within it
 pub within : (least most x : ℕ) → outside least most x ≡ false → (least ≤ x) × (x ≤ most)
@@ -102,6 +102,29 @@ pub writing-accepted : (room : List ℕ) (f : Fields) → ltb (length room) 20 �
     → writing room f ≡ record { said = accepted; room = codeOf f ++ drop 20 room }
 unfolding writing fieldChecks
 writing-accepted room f long point scale spans number = rw (long, point, scale, spans, number)
+
+-- Fields that writing accepts are good, and the room has twenty bytes
+pub accepted-writing : (room : List ℕ) (f : Fields) → writing room f .said ≡ accepted → (20 ≤ length room) × Good f
+unfolding writing fieldChecks
+accepted-writing room f e =
+    let p = passed (writeChecks room f) tt (ap (λ (s : Said). s .number) e) in
+    (ltb-false (length room) 20 (p .0), good f (p .1 .0) (p .1 .1 .0) (p .1 .1 .1 .0) (ltb-false 1048575 (f .number) (p .1 .1 .1 .1 .0)))
+
+-- Good fields are accepted by a room that has twenty
+pub good-writing : (room : List ℕ) (f : Fields) → 20 ≤ length room → Good f
+    → writing room f ≡ record { said = accepted; room = codeOf f ++ drop 20 room }
+good-writing room f h g =
+    writing-accepted room f
+    (le-ltb (length room) 20 h)
+    (none-of (in-angle (g .lat)) (in-angle (g .lon)))
+    (in-range (g .scale))
+    (none-of (none-of (none-of (in-range (g .east)) (in-range (g .north))) (in-range (g .west))) (in-range (g .south)))
+    (le-ltb 1048575 (f .number) (g .number))
+  where
+    in-range : {least most x : ℕ} → (least ≤ x) × (x ≤ most) → outside least most x ≡ false
+    in-range {least} {most} {x} k = none-of (le-ltb x least (k .0)) (le-ltb most x (k .1))
+    in-angle : {end a : ℕ} → Angle end a → noReference a end ≡ false
+    in-angle {end} {a} k = none-of (ap not (eq-eqb (a % 32) 0 (k .whole))) (lt-leb end a (k .below))
 
 -- A room into which eleven bytes and then nine are written has these twenty, and its other bytes
 pub room-after : (room s t : List ℕ) → length s ≡ 11

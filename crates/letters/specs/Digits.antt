@@ -29,13 +29,14 @@ pub digits-length : (n x : ℕ) → length (digits n x) ≡ n
 digits-length zero x = refl
 digits-length (suc n) x = simp length-append (omega (arith, digits-length n (x / 32)))
 
-snoc : {ds : List ℕ} {d : ℕ} → Digits ds → d < 32 → Digits (ds ++ (d ∷ []))
-snoc none k = more k none
-snoc (more h r) k = more h (snoc r k)
+-- Digits after digits are digits
+pub digits-append : {xs ys : List ℕ} → Digits xs → Digits ys → Digits (xs ++ ys)
+digits-append none s = s
+digits-append (more h r) s = more h (digits-append r s)
 
 pub digits-are : (n x : ℕ) → Digits (digits n x)
 digits-are zero x = none
-digits-are (suc n) x = snoc (digits-are n (x / 32)) (omega arith)
+digits-are (suc n) x = digits-append (digits-are n (x / 32)) (more {d = x % 32} (omega arith) none)
 
 -- One digit more
 pub value-snoc : (x : ℕ) (ds : List ℕ) (d : ℕ) → valueFrom x (ds ++ (d ∷ [])) ≡ valueFrom x ds * 32 + d

@@ -1,6 +1,6 @@
 -- Words: texts of letters alone. Spelling digits and reading a word give each other back, for any alphabet of 32 distinct letters.
 -- Assumes nothing.
-use Prim.Native.Nat.{ℕ, zero, suc, _^_, _<_, _≤_}
+use Prim.Native.Nat.{ℕ, zero, suc, _+_, _^_, _<_, _≤_}
 use native.Mathlib.Omega.{arith}
 use mathlib.Core.Path.{_≡_, refl, ap, ap₂, _∙_, sym, subst}
 use mathlib.Core.Bool.{Bool, true, false, cond, not}
@@ -10,8 +10,8 @@ use lib.ListN.{length, getD, take, drop, length-map}
 use borrow.Author.Tests.{ltb-true, lt-ltb}
 use Rattle.replies.specs.Places.{first-most}
 use Rattle.letters.specs.Alphabet.{valueIn, letterIn, isLetter, firstOther, distinct, found-back, spelled-back}
-use Rattle.letters.specs.Digits.{Digits, none, more, value-most}
-use Rattle.letters.specs.Letters.{letters, numberIn}
+use Rattle.letters.specs.Digits.{Digits, none, more, digits, valueOf, digits-are, value-most, value-digits, digits-value}
+use Rattle.letters.specs.Letters.{letters, numberIn, spelledIn}
 
 -- Each byte of a text is a letter
 pub data Word (alphabet : List ℕ) : List ℕ → Type 0 where
@@ -70,6 +70,13 @@ module _ {alphabet : List ℕ} where
   word-number e {s} w =
       subst (λ (n : ℕ). numberIn alphabet s < 32 ^ n) (length-map s (valueIn alphabet)) (value-most (word-digits e w))
 
+  -- The digits of that number are the word's values
+  pub word-values : length alphabet ≡ 32 → (n : ℕ) {s : List ℕ} → length s ≡ n → Word alphabet s
+      → digits n (numberIn alphabet s) ≡ map (valueIn alphabet) s
+  word-values e n {s} k w =
+      let places : n ≡ 0 + length (map (valueIn alphabet) s) = omega (arith, length-map s (valueIn alphabet)) in
+      ap (λ (m : ℕ). digits m (numberIn alphabet s)) places ∙ digits-value 0 0 (word-digits e w)
+
 module _ (alphabet : List ℕ) (once : T (distinct alphabet)) (long : length alphabet ≡ 32) where
   -- The values of the letters of digits are the digits
   pub digits-back : {ds : List ℕ} → Digits ds → map (valueIn alphabet) (map (letterIn alphabet) ds) ≡ ds
@@ -82,3 +89,7 @@ module _ (alphabet : List ℕ) (once : T (distinct alphabet)) (long : length alp
   digits-word (more {d} h r) =
       let back : valueIn alphabet (letterIn alphabet d) ≡ d = found-back alphabet once d (omega arith) in
       letter {b = letterIn alphabet d} (omega arith) (digits-word r)
+
+  -- A number that fits its letters is read back
+  pub number-spelled : (n x : ℕ) → x < 32 ^ n → numberIn alphabet (spelledIn alphabet n x) ≡ x
+  number-spelled n x h = ap valueOf (digits-back (digits-are n x)) ∙ value-digits n 0 x h ∙ omega arith

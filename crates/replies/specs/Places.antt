@@ -24,25 +24,25 @@ first-most test (x ∷ xs) = at (test x) (first-most test xs)
     at false h = omega arith
 
 -- A loop that goes through a list and has met no such element before place i
-pub record Passed {A : Type 0} (test : A → Bool) (xs : List A) (i : ℕ) : Type 0 where
+pub record NoneBefore {A : Type 0} (test : A → Bool) (xs : List A) (i : ℕ) : Type 0 where
   pub within : i ≤ length xs
   pub none : firstPlace test xs ≡ i + firstPlace test (drop i xs)
 
 module _ {A : Type 0} {test : A → Bool} {xs : List A} where
-  pub begin : Passed test xs 0
+  pub begin : NoneBefore test xs 0
   begin = record { within = omega arith; none = omega arith }
 
-  pub again : {i : ℕ} → Passed test xs i → i < length xs → (d : A) → test (getD xs i d) ≡ false → Passed test xs (i + 1)
+  pub again : {i : ℕ} → NoneBefore test xs i → i < length xs → (d : A) → test (getD xs i d) ≡ false → NoneBefore test xs (i + 1)
   again {i} p h d e =
       let next : firstPlace test (drop i xs) ≡ suc (firstPlace test (drop (i + 1) xs)) = rw (drop-cons xs i d h, e, add-one) in
       record { within = omega arith; none = omega arith }
 
-  pub found : {i : ℕ} → Passed test xs i → i < length xs → (d : A) → test (getD xs i d) ≡ true → i ≡ firstPlace test xs
+  pub found : {i : ℕ} → NoneBefore test xs i → i < length xs → (d : A) → test (getD xs i d) ≡ true → i ≡ firstPlace test xs
   found {i} p h d e =
       let here : firstPlace test (drop i xs) ≡ 0 = rw (drop-cons xs i d h, e) in
       omega arith
 
-  pub finish : {i : ℕ} → Passed test xs i → length xs ≤ i → i ≡ firstPlace test xs
+  pub finish : {i : ℕ} → NoneBefore test xs i → length xs ≤ i → i ≡ firstPlace test xs
   finish {i} p h =
       let over : firstPlace test (drop i xs) ≡ 0 = rw (drop-of-length-le xs h) in
       omega arith

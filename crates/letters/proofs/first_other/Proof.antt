@@ -4,14 +4,14 @@ use mathlib.Core.Bool.{not}
 use mathlib.Core.Path.{sym, _∙_}
 use borrow.Author.Needs.{needs}
 use lib.ListN.{length, getD}
-use Rattle.replies.specs.Places.{Passed, begin, again, found, finish}
+use Rattle.replies.specs.Places.{NoneBefore, begin, again, found, finish}
 use Rattle.letters.specs.Alphabet.{isLetter, no-letter, a-letter}
 use Rattle.letters.specs.Letters.{letters}
 use Rattle.letters.proofs.first_other.Statement.{statement}
 use Rattle.letters.proofs.first_other.Tie as tie
 
 abbrev Inv-loop : tie.InvT-loop
-Inv-loop text i₀ i = Passed (λ (byte : ℕ). not (isLetter letters byte)) text i
+Inv-loop text i₀ i = NoneBefore (λ (byte : ℕ). not (isLetter letters byte)) text i
 
 abbrev μ-loop : tie.MeasureT-loop
 μ-loop text i₀ i = length text - i

@@ -4,12 +4,12 @@ use borrow.Author.Needs.{needs}
 use borrow.Author.Tests.{eq-eqb, ne-eqb}
 use lib.Dec.{eqb}
 use lib.ListN.{length}
-use Rattle.replies.specs.Places.{Passed, begin, again, found, finish}
+use Rattle.replies.specs.Places.{NoneBefore, begin, again, found, finish}
 use Rattle.letters.proofs.value_in.Statement.{statement}
 use Rattle.letters.proofs.value_in.Tie as tie
 
 abbrev Inv-loop : tie.InvT-loop
-Inv-loop alphabet byte i₀ i = Passed (λ (x : ℕ). eqb x byte) alphabet i
+Inv-loop alphabet byte i₀ i = NoneBefore (λ (x : ℕ). eqb x byte) alphabet i
 
 abbrev μ-loop : tie.MeasureT-loop
 μ-loop alphabet byte i₀ i = length alphabet - i
