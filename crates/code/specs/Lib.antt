@@ -4,3 +4,4 @@ pub mod Inner
 pub mod Writing
 pub mod Reading
 pub mod Reverse
+pub mod Once
