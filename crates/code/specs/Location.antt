@@ -123,7 +123,7 @@ paired-back zero x h = omega arith
 paired-back (suc n) x h =
     let k : x < 4 ^ n * 4 = rw pow-suc at h in
     let first : (latters n (x / 2 / 4) * 2 + x / 2 % 2) / 2 ≡ latters n (x / 4 / 2) =
-        omega (arith, ap (latters n) (swapped x)) in
+    omega (arith, ap (latters n) (swapped x)) in
     let second : (latters n (x / 4) * 2 + x % 2) / 2 ≡ latters n (x / 4) = omega arith in
     rw (first, second) (omega (arith, paired-back n (x / 4) (omega arith)))
   where

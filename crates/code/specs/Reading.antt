@@ -20,7 +20,21 @@ use Rattle.code.specs.declared.Fields.{Fields}
 use Rattle.code.specs.Location.{degreesIn, hemisphereIn, angleIn}
 use Rattle.code.specs.Inner.{TwentyLetters, Readable}
 use Rattle.code.specs.Code.{
-  locationIn, valueAt, latIn, lonIn, fieldsFrom, fieldsIn, outside, past59, shortSpan, letterChecks, readChecks, reading, tellsOf, tellsNothing}
+  locationIn,
+  valueAt,
+  latIn,
+  lonIn,
+  fieldsFrom,
+  fieldsIn,
+  outside,
+  past59,
+  shortSpan,
+  letterChecks,
+  readChecks,
+  reading,
+  tellsOf,
+  tellsNothing,
+}
 use Rattle.code.specs.Writing.{within}
 
 -- So many cells of a scale, less one, reach no further than thirty degrees
@@ -96,14 +110,15 @@ unfolding reading letterChecks
 reading-accepted text t a =
     let letters-all : length text ≤ firstOther letters text = omega (arith, word-first (t .word)) in
     rw (
-    eq-eqb (length text) 20 (t .twenty),
-    le-ltb (firstOther letters text) (length text) letters-all,
-    a .closing,
-    a .hemisphere,
-    a .degrees,
-    a .sixty,
-    a .scale,
-    a .spans)
+      eq-eqb (length text) 20 (t .twenty),
+      le-ltb (firstOther letters text) (length text) letters-all,
+      a .closing,
+      a .hemisphere,
+      a .degrees,
+      a .sixty,
+      a .scale,
+      a .spans,
+    )
 
 -- A text that reading accepts is such a text
 pub accepted-reading : (text : List ℕ) → reading text .said ≡ accepted → TwentyLetters text × Accepts text
@@ -111,16 +126,17 @@ unfolding reading letterChecks
 accepted-reading text e =
     let zero-said : run (readChecks text) .number ≡ 0 = at (eqb (run (readChecks text) .number) 0) refl e in
     let p = passed (readChecks text) tt zero-said in
-    let twenty : length text ≡ 20 = eqb-true (length text) 20 (not-false (eqb (length text) 20) (p .0)) in
-    (record { twenty = twenty; word = first-word text (ltb-false (firstOther letters text) (length text) (p .1 .0)) },
-    record {
-      closing = p .1 .1 .0;
-      hemisphere = p .1 .1 .1 .0;
-      degrees = p .1 .1 .1 .1 .0;
-      sixty = p .1 .1 .1 .1 .1 .0;
-      scale = p .1 .1 .1 .1 .1 .1 .0;
-      spans = p .1 .1 .1 .1 .1 .1 .1 .0;
-    })
+    let twenty : length text ≡ 20 = eqb-true (length text) 20 (not-false (eqb (length text) 20) (p .0)) in (
+      record { twenty = twenty; word = first-word text (ltb-false (firstOther letters text) (length text) (p .1 .0)) },
+      record {
+        closing = p .1 .1 .0;
+        hemisphere = p .1 .1 .1 .0;
+        degrees = p .1 .1 .1 .1 .0;
+        sixty = p .1 .1 .1 .1 .1 .0;
+        scale = p .1 .1 .1 .1 .1 .1 .0;
+        spans = p .1 .1 .1 .1 .1 .1 .1 .0;
+      },
+    )
   where
     at : (b : Bool) → eqb (run (readChecks text) .number) 0 ≡ b
         → cond b (tellsOf (fieldsIn text)) (tellsNothing (run (readChecks text))) .said ≡ accepted → run (readChecks text) .number ≡ 0

@@ -18,11 +18,49 @@ use Rattle.letters.specs.Letters.{letters, numberIn, spelledIn}
 use Rattle.letters.specs.Words.{Word, letters-distinct, word-first, first-word, word-back, word-digits, word-take, word-drop, word-values, digits-word, number-spelled}
 use Rattle.code.specs.declared.Fields.{Fields}
 use Rattle.code.specs.Location.{
-  bitsOf, angleIn, degrees, minutes, seconds, degreesIn, minutesIn, secondsIn, sixtyFourthsIn, hemisphereIn, paired, formers, latters, locationOf,
-  paired-below, formers-paired, latters-paired, paired-back, bits-tell, bits-back, angle-back, minutes-most, seconds-most}
+  bitsOf,
+  angleIn,
+  degrees,
+  minutes,
+  seconds,
+  degreesIn,
+  minutesIn,
+  secondsIn,
+  sixtyFourthsIn,
+  hemisphereIn,
+  paired,
+  formers,
+  latters,
+  locationOf,
+  paired-below,
+  formers-paired,
+  latters-paired,
+  paired-back,
+  bits-tell,
+  bits-back,
+  angle-back,
+  minutes-most,
+  seconds-most,
+}
 use Rattle.code.specs.Code.{
-  valuesOf, codeOf, writing, outside, past59, shortSpan, locationIn, latIn, lonIn, valueAt, fieldsFrom, fieldsIn, letterChecks, readChecks,
-  reading, Told, tellsOf}
+  valuesOf,
+  codeOf,
+  writing,
+  outside,
+  past59,
+  shortSpan,
+  locationIn,
+  latIn,
+  lonIn,
+  valueAt,
+  fieldsFrom,
+  fieldsIn,
+  letterChecks,
+  readChecks,
+  reading,
+  Told,
+  tellsOf,
+}
 use Rattle.code.specs.Inner.{TwentyLetters}
 use Rattle.code.specs.Writing.{Angle, Good, within, good-tail, accepted-writing, good-writing}
 use Rattle.code.specs.Reading.{Accepts, eleven, location-below, four, unit-below, letter-most, reading-accepted, accepted-reading}
@@ -133,7 +171,7 @@ module _ (f : Fields) (g : Good f) where
         hemisphere =
             ap₂ (λ (a b : ℕ). ltb 0 (hemisphereIn a) || ltb 0 (hemisphereIn b)) code-lat code-lon
             ∙ none-of (le-ltb 0 (hemisphereIn (bitsOf lat)) (omega (arith, lat-below)))
-              (le-ltb 0 (hemisphereIn (bitsOf lon)) (omega (arith, lon-below)));
+            (le-ltb 0 (hemisphereIn (bitsOf lon)) (omega (arith, lon-below)));
         degrees =
             ap₂ (λ (a b : ℕ). ltb 89 (degreesIn a) || ltb 179 (degreesIn b)) code-lat code-lon
             ∙ none-of (in-degrees 89 lat (g .lat .below)) (in-degrees 179 lon (g .lon .below));
@@ -144,7 +182,7 @@ module _ (f : Fields) (g : Good f) where
         spans =
             ap shortSpan code-fields
             ∙ none-of (none-of (le-ltb (f .east) 2 (g .east .0)) (le-ltb (f .north) 2 (g .north .0)))
-              (none-of (le-ltb (f .west) 1 (g .west .0)) (le-ltb (f .south) 1 (g .south .0)));
+            (none-of (le-ltb (f .west) 1 (g .west .0)) (le-ltb (f .south) 1 (g .south .0)));
       }
 
   -- Reading the code of good fields tells them
@@ -203,6 +241,7 @@ module _ (text : List ℕ) (t : TwentyLetters text) (a : Accepts text) where
     where
       halved : {n : ℕ} → n < 2 ^ 55 → n / 2 < 4 ^ 27
       halved h = omega arith
+
       doubled : (n : ℕ) → (n % 2 ≡ 0 → ⊥) → n / 2 * 2 + 1 ≡ n
       doubled n h = at (n % 2) refl
         where
@@ -215,20 +254,20 @@ module _ (text : List ℕ) (t : TwentyLetters text) (a : Accepts text) where
   between =
       drop-cons text 11 0 (omega arith)
       ∙ ap (λ (l : List ℕ). getD text 11 0 ∷ l)
-        (drop-cons text 12 0 (omega arith)
-        ∙ ap (λ (l : List ℕ). getD text 12 0 ∷ l)
-          (drop-cons text 13 0 (omega arith)
-          ∙ ap (λ (l : List ℕ). getD text 13 0 ∷ l)
-            (drop-cons text 14 0 (omega arith) ∙ ap (λ (l : List ℕ). getD text 14 0 ∷ l) (drop-cons text 15 0 (omega arith)))))
+      (drop-cons text 12 0 (omega arith)
+      ∙ ap (λ (l : List ℕ). getD text 12 0 ∷ l)
+      (drop-cons text 13 0 (omega arith)
+      ∙ ap (λ (l : List ℕ). getD text 13 0 ∷ l)
+      (drop-cons text 14 0 (omega arith) ∙ ap (λ (l : List ℕ). getD text 14 0 ∷ l) (drop-cons text 15 0 (omega arith)))))
 
   -- The values of their code are the text's
   told-values : valuesOf (fieldsIn text) ≡ map (valueIn letters) text
   unfolding valuesOf fieldsFrom
   told-values =
       let first : digits 11 (locationOf (fieldsIn text .reference)) ≡ map (valueIn letters) (take 11 text) =
-          ap (digits 11) told-location ∙ word-values refl 11 (eleven t) (word-take 11 (t .word)) in
+      ap (digits 11) told-location ∙ word-values refl 11 (eleven t) (word-take 11 (t .word)) in
       let last : digits 4 (numberIn letters (drop 16 text)) ≡ map (valueIn letters) (drop 16 text) =
-          word-values refl 4 (four t) (word-drop 16 (t .word)) in
+      word-values refl 4 (four t) (word-drop 16 (t .word)) in
       ap₂ (λ (x y : List ℕ). x ++ (valueAt text 11 ∷ valueAt text 12 ∷ valueAt text 13 ∷ valueAt text 14 ∷ valueAt text 15 ∷ y)) first last
       ∙ ap (λ (l : List ℕ). map (valueIn letters) (take 11 text) ++ map (valueIn letters) l) (sym between)
       ∙ sym (map-append (valueIn letters) (take 11 text) (drop 11 text))

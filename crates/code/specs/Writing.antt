@@ -123,6 +123,7 @@ good-writing room f h g =
   where
     in-range : {least most x : ℕ} → (least ≤ x) × (x ≤ most) → outside least most x ≡ false
     in-range {least} {most} {x} k = none-of (le-ltb x least (k .0)) (le-ltb most x (k .1))
+
     in-angle : {end a : ℕ} → Angle end a → noReference a end ≡ false
     in-angle {end} {a} k = none-of (ap not (eq-eqb (a % 32) 0 (k .whole))) (lt-leb end a (k .below))
 

@@ -81,14 +81,15 @@ returns c =
     let c1 = c .before .before .before .before .before .before .before .before .before .before .before .before .before in
     let t : TwentyLetters (c1 .before .before .args .text .now) = c1 .before .before .pre .0 in
     rw (
-    c1 .angle-in .ensures,
-    c .before .before .before .before .before .before .before .before .before .before .before .before .angle-in2 .ensures,
-    c .before .before .before .before .before .before .before .before .before .before .value .ensures,
-    c .before .before .before .before .before .before .before .before .value2 .ensures,
-    c .before .before .before .before .before .before .value3 .ensures,
-    c .before .before .before .before .value4 .ensures,
-    c .before .before .value5 .ensures,
-    c .number .ensures ∙ unit-low t)
+      c1 .angle-in .ensures,
+      c .before .before .before .before .before .before .before .before .before .before .before .before .angle-in2 .ensures,
+      c .before .before .before .before .before .before .before .before .before .before .value .ensures,
+      c .before .before .before .before .before .before .before .before .value2 .ensures,
+      c .before .before .before .before .before .before .value3 .ensures,
+      c .before .before .before .before .value4 .ensures,
+      c .before .before .value5 .ensures,
+      c .number .ensures ∙ unit-low t,
+    )
 
 pub fields-spec : {M : Type 1} → statement M
 fields-spec =

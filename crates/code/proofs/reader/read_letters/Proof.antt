@@ -37,7 +37,7 @@ said-13 c = ap (λ (n : ℕ). eqb (n % 2) 0) (sym (location (c .before))) ∙ ne
 
 said-14 : (c : tie.After-either-less)
     → (ltb 0 (hemisphereIn (latIn (text-of (number-at (c .before))))) || ltb 0 (hemisphereIn (lonIn (text-of (number-at (c .before))))))
-        ≡ c .either-less .result
+    ≡ c .either-less .result
 said-14 c =
     ap₂ (λ (a b : ℕ). ltb 0 (hemisphereIn a) || ltb 0 (hemisphereIn b)) (sym (lat (c .before))) (sym (lon (c .before)))
     ∙ sym (c .either-less .ensures)
@@ -47,7 +47,7 @@ lon-at c = c .before .before
 
 said-15 : (c : tie.After-either-less2)
     → (ltb 89 (degreesIn (latIn (text-of (number-at (lon-at (c .before)))))) || ltb 179 (degreesIn (lonIn (text-of (number-at (lon-at (c .before)))))))
-        ≡ c .either-less2 .result
+    ≡ c .either-less2 .result
 said-15 c =
     ap₂ (λ (a b : ℕ). ltb 89 (degreesIn a) || ltb 179 (degreesIn b)) (sym (lat (lon-at (c .before)))) (sym (lon (lon-at (c .before))))
     ∙ sym (c .either-less2 .ensures)
@@ -132,10 +132,11 @@ returns-4 c =
     let c3 = c .before .before in
     let c2 = c3 .before .before in
     rw (
-    said-13 (c2 .before .before .before .before),
-    said-14 (c2 .before) ∙ c2 .if2 .left,
-    said-15 (c3 .before) ∙ c3 .if3 .left,
-    said-16-lat (c .before) ∙ c .if4 .taken)
+      said-13 (c2 .before .before .before .before),
+      said-14 (c2 .before) ∙ c2 .if2 .left,
+      said-15 (c3 .before) ∙ c3 .if3 .left,
+      said-16-lat (c .before) ∙ c .if4 .taken,
+    )
 
 past-59-requires-2 : tie.Need-past-59-requires-2
 past-59-requires-2 c κs = search needs
@@ -147,11 +148,12 @@ returns-5 c =
     let c3 = c4 .before .before in
     let c2 = c3 .before .before in
     rw (
-    said-13 (c2 .before .before .before .before),
-    said-14 (c2 .before) ∙ c2 .if2 .left,
-    said-15 (c3 .before) ∙ c3 .if3 .left,
-    said-16-lat (c4 .before) ∙ c4 .if4 .left,
-    said-16-lon (c .before) ∙ c .if5 .taken)
+      said-13 (c2 .before .before .before .before),
+      said-14 (c2 .before) ∙ c2 .if2 .left,
+      said-15 (c3 .before) ∙ c3 .if3 .left,
+      said-16-lat (c4 .before) ∙ c4 .if4 .left,
+      said-16-lon (c .before) ∙ c .if5 .taken,
+    )
 
 fields-requires : tie.Need-fields-requires
 fields-requires c κs = (number-at (lon-at5 c) .before .before .before .pre, degrees (c .before .before .before .before))
@@ -167,12 +169,13 @@ returns-6 c =
     let c3 = c4 .before .before in
     let c2 = c3 .before .before in
     rw (
-    said-13 (c2 .before .before .before .before),
-    said-14 (c2 .before) ∙ c2 .if2 .left,
-    said-15 (c3 .before) ∙ c3 .if3 .left,
-    said-16-lat (c4 .before) ∙ c4 .if4 .left,
-    said-16-lon (c5 .before) ∙ c5 .if5 .left,
-    said-17 (c .before) ∙ c .if6 .taken)
+      said-13 (c2 .before .before .before .before),
+      said-14 (c2 .before) ∙ c2 .if2 .left,
+      said-15 (c3 .before) ∙ c3 .if3 .left,
+      said-16-lat (c4 .before) ∙ c4 .if4 .left,
+      said-16-lon (c5 .before) ∙ c5 .if5 .left,
+      said-17 (c .before) ∙ c .if6 .taken,
+    )
 
 short-span-requires : tie.Need-short-span-requires
 short-span-requires c κs = search needs
@@ -186,13 +189,14 @@ returns-7 c =
     let c3 = c4 .before .before in
     let c2 = c3 .before .before in
     rw (
-    said-13 (c2 .before .before .before .before),
-    said-14 (c2 .before) ∙ c2 .if2 .left,
-    said-15 (c3 .before) ∙ c3 .if3 .left,
-    said-16-lat (c4 .before) ∙ c4 .if4 .left,
-    said-16-lon (c5 .before) ∙ c5 .if5 .left,
-    said-17 (c6 .before) ∙ c6 .if6 .left,
-    said-18 (c .before) ∙ c .if7 .taken)
+      said-13 (c2 .before .before .before .before),
+      said-14 (c2 .before) ∙ c2 .if2 .left,
+      said-15 (c3 .before) ∙ c3 .if3 .left,
+      said-16-lat (c4 .before) ∙ c4 .if4 .left,
+      said-16-lon (c5 .before) ∙ c5 .if5 .left,
+      said-17 (c6 .before) ∙ c6 .if6 .left,
+      said-18 (c .before) ∙ c .if7 .taken,
+    )
 
 rectangle-requires : tie.Need-rectangle-requires
 rectangle-requires c κs =
@@ -216,15 +220,16 @@ returns-8 c =
     let c3 = c4 .before .before in
     let c2 = c3 .before .before in
     rw (
-    c .rectangle .ensures,
-    fields (c6 .before .before),
-    said-13 (c2 .before .before .before .before),
-    said-14 (c2 .before) ∙ c2 .if2 .left,
-    said-15 (c3 .before) ∙ c3 .if3 .left,
-    said-16-lat (c4 .before) ∙ c4 .if4 .left,
-    said-16-lon (c5 .before) ∙ c5 .if5 .left,
-    said-17 (c6 .before) ∙ c6 .if6 .left,
-    said-18 (c7 .before) ∙ c7 .if7 .left)
+      c .rectangle .ensures,
+      fields (c6 .before .before),
+      said-13 (c2 .before .before .before .before),
+      said-14 (c2 .before) ∙ c2 .if2 .left,
+      said-15 (c3 .before) ∙ c3 .if3 .left,
+      said-16-lat (c4 .before) ∙ c4 .if4 .left,
+      said-16-lon (c5 .before) ∙ c5 .if5 .left,
+      said-17 (c6 .before) ∙ c6 .if6 .left,
+      said-18 (c7 .before) ∙ c7 .if7 .left,
+    )
 
 pub read-letters-spec : {M : Type 1} → statement M
 read-letters-spec =

@@ -33,14 +33,15 @@ unfolding rectangleOf
 returns c =
     let c1 = c .before .before .before .before .before .before in
     rw (
-    c1 .back .ensures,
-    c1 .before .reach .ensures .0,
-    c .before .before .before .before .ahead .ensures,
-    c .before .before .before .before .before .reach2 .ensures .0,
-    c .before .before .back2 .ensures,
-    c .before .before .before .reach3 .ensures .0,
-    c .ahead2 .ensures,
-    c .before .reach4 .ensures .0)
+      c1 .back .ensures,
+      c1 .before .reach .ensures .0,
+      c .before .before .before .before .ahead .ensures,
+      c .before .before .before .before .before .reach2 .ensures .0,
+      c .before .before .back2 .ensures,
+      c .before .before .before .reach3 .ensures .0,
+      c .ahead2 .ensures,
+      c .before .reach4 .ensures .0,
+    )
 
 pub rectangle-spec : {M : Type 1} → statement M
 rectangle-spec =

@@ -1,0 +1,140 @@
+-- The starred cases of document 01 ("Tried on both sides", 1 to 10): one table, and one statement about the definitions that the checker
+-- computes. Assumes nothing.
+use Prim.Native.Nat.{ℕ, _+_, _*_, _/_, _%_}
+use Prim.Native.String.{String}
+use mathlib.Core.Bool.{Bool, true, false, _&&_}
+use mathlib.Core.List.{List, [], _∷_, map}
+use lib.Dec.{T, eqb}
+use lib.ListN.{replicate}
+use Rattle.replies.specs.Replies.{Said}
+use Rattle.ground.specs.declared.Rectangle.{Rectangle}
+use Rattle.ground.specs.Levels.{sizeOf}
+use Rattle.ground.specs.Cells.{afresh, lowSide, highSide, sidesOf, centreOf, locationCell}
+use Rattle.letters.specs.Letters.{bytes, letters, spelledIn}
+use Rattle.boundary.specs.Boundary.{edgesOf, left, leftOrOn, misses, crossesEast, inside}
+use Rattle.code.specs.Location.{bitsOf, angleIn, paired, latters, locationOf}
+use Rattle.code.specs.Code.{valuesOf, codeOf, rectangleOf, fieldsFrom, letterChecks, Told, reading}
+use Rattle.unit.specs.declared.Kind.{Kind}
+use Rattle.unit.specs.declared.Kind.the-variants.{Building, Other}
+use Rattle.unit.specs.Extents.{cornersOf, extremesOf}
+use Rattle.unit.specs.Chosen.{choose}
+use Rattle.unit.specs.Unit.{scaleOf, fieldsOf, cornerChecks, coding}
+
+-- What a case tries, and what comes out
+pub data Case : Type 0 where
+  codes : Kind → ℕ → List ℕ → String → Case
+  refuses : Kind → ℕ → List ℕ → ℕ → Case
+  reads : String → ℕ → ℕ → ℕ → ℕ → Case
+  refusesText : String → ℕ → ℕ → Case
+  scales : ℕ → ℕ → Case
+  spells : List ℕ → String → Case
+
+-- The table; corners are (latitude, longitude)
+abbrev pub starred : List Case
+starred =
+    -- 1
+    codes Building 1 (294250496 ∷ 857567232 ∷ 294250496 ∷ 857569280 ∷ 294252544 ∷ 857569280 ∷ 294252544 ∷ 857567232 ∷ [])
+    "0W7ARCTDHYYRA99A0001"
+    -- 2: west, east, south, north
+    ∷ reads "0W7ARCTDHYYRA99A0001" 857567200 857569376 294250464 294252640
+    -- 3: 48 seconds are 98,304 u, 60 are 122,880
+    ∷ codes Other 0 (98304 ∷ 98304 ∷ 98304 ∷ 122880 ∷ 122880 ∷ 122880 ∷ 122880 ∷ 98304 ∷ []) "000000XCYYYNEDDE0000"
+    -- 4
+    ∷ codes Other 0 (0 ∷ 0 ∷ 0 ∷ 960 ∷ 32 ∷ 960 ∷ 32 ∷ 0 ∷ []) "00000000001UY1120000"
+    -- 5
+    ∷ refuses Other 0 (0 ∷ 0 ∷ 0 ∷ 961 ∷ 32 ∷ 961 ∷ 32 ∷ 0 ∷ []) 8
+    -- 6
+    ∷ refuses Other 0 (0 ∷ 0 ∷ 0 ∷ 32 ∷ 32 ∷ 0 ∷ []) 7
+    -- 7
+    ∷ scales 1023 27
+    ∷ scales 1024 26
+    -- 8
+    ∷ spells (2 ∷ 0 ∷ 1 ∷ 0 ∷ 0 ∷ 2 ∷ 0 ∷ 1 ∷ 0 ∷ 0 ∷ 2 ∷ 0 ∷ 1 ∷ 0 ∷ 0 ∷ 2 ∷ 0 ∷ 1 ∷ 0 ∷ 0 ∷ 2 ∷ 0 ∷ 1 ∷ 0 ∷ 0 ∷ 2 ∷ 0 ∷ []) "GGGGGGGGGGH"
+    -- 9
+    ∷ refusesText "GGGGGGGGGGHUY1120000" 14 0
+    ∷ refusesText "GGGGGGGGGGGUY1120000" 13 0
+    -- 10
+    ∷ refusesText "00000000001UY112000O" 12 19
+    ∷ []
+
+-- Two texts are the same
+abbrev pub same : List ℕ → List ℕ → Bool
+same [] [] = true
+same [] (y ∷ ys) = false
+same (x ∷ xs) [] = false
+same (x ∷ xs) (y ∷ ys) = eqb x y && same xs ys
+
+-- An answer says a number and a place
+abbrev pub saying : Said → ℕ → ℕ → Bool
+saying s number place = eqb (s .number) number && eqb (s .place) place
+
+-- A reading is accepted with these sides
+abbrev pub sides : Told → ℕ → ℕ → ℕ → ℕ → Bool
+sides t west east south north =
+    saying (t .said) 0 0 && eqb (t .rectangle .west .0) west && eqb (t .rectangle .east .0) east
+    && eqb (t .rectangle .south .0) south && eqb (t .rectangle .north .0) north
+
+-- Twenty bytes of room
+abbrev pub room : List ℕ
+room = replicate 20 46
+
+-- The number that bits make, high first
+abbrev pub bitsFrom : ℕ → List ℕ → ℕ
+bitsFrom x [] = x
+bitsFrom x (b ∷ bs) = bitsFrom (x * 2 + b) bs
+
+-- Annex B's digits hold a latitude's bit and a longitude's; a 1 is added at the end
+abbrev pub annexB : List ℕ → List ℕ
+annexB digits =
+    spelledIn letters 11 (paired 27 (bitsFrom 0 (map (λ d. d / 2) digits)) (bitsFrom 0 (map (λ d. d % 2) digits)) * 2 + 1)
+
+-- A case comes out as the table says
+abbrev pub holds : Case → Bool
+holds (codes kind number corners code) =
+    saying (coding room corners kind number .said) 0 0 && same (coding room corners kind number .room) (bytes code)
+holds (refuses kind number corners refusal) =
+    saying (coding room corners kind number .said) refusal 0 && same (coding room corners kind number .room) room
+holds (reads code west east south north) = sides (reading (bytes code)) west east south north
+holds (refusesText text refusal place) = saying (reading (bytes text) .said) refusal place
+holds (scales span level) = eqb (scaleOf span) level
+holds (spells digits text) = same (annexB digits) (bytes text)
+
+-- Every case of a table comes out so
+abbrev pub every : List Case → Bool
+every [] = true
+every (c ∷ cs) = holds c && every cs
+
+-- The starred cases hold of the definitions
+pub starred-hold : T (every starred)
+unfolding sizeOf
+    afresh
+    lowSide
+    highSide
+    sidesOf
+    centreOf
+    locationCell
+    edgesOf
+    left
+    leftOrOn
+    misses
+    crossesEast
+    inside
+    bitsOf
+    angleIn
+    paired
+    latters
+    locationOf
+    valuesOf
+    codeOf
+    rectangleOf
+    fieldsFrom
+    letterChecks
+    reading
+    cornersOf
+    extremesOf
+    choose
+    scaleOf
+    fieldsOf
+    cornerChecks
+    coding
+starred-hold = tt

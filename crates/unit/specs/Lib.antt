@@ -1,0 +1,3 @@
+pub mod Extents
+pub mod Chosen
+pub mod Unit

@@ -1,0 +1,107 @@
+-- Coding a unit (document 01, "The twenty characters" and "Replies"): scale, spans, checks 1 to 8, and coding as one function from room,
+-- numbers, kind and unit number to reply and room. Assumes nothing.
+use Prim.Native.Nat.{ℕ, zero, suc, _+_, _-_, _*_, _/_, _%_}
+use mathlib.Core.Bool.{Bool, true, false, cond, not, _||_}
+use mathlib.Core.List.{List, [], _∷_}
+use lib.Dec.{eqb, ltb}
+use lib.ListN.{length}
+use Rattle.replies.specs.Replies.{Check, check, check-at, run, Outcome, outcome}
+use Rattle.replies.specs.Places.{firstPlace}
+use Rattle.ground.specs.declared.Point.{Point}
+use Rattle.ground.specs.declared.Rectangle.{Rectangle}
+use Rattle.ground.specs.declared.Cell.{Cell}
+use Rattle.ground.specs.Levels.{latEnd, lonEnd, sizeOf}
+use Rattle.ground.specs.Cells.{locationCell, cornerOf}
+use Rattle.code.specs.declared.Fields.{Fields}
+use Rattle.code.specs.Code.{outside, codeOf}
+use Rattle.unit.specs.declared.Kind.{Kind}
+use Rattle.unit.specs.declared.Kind.the-variants.{Building, Other}
+use Rattle.unit.specs.declared.Choice.{Choice}
+use Rattle.unit.specs.declared.Choice.the-variants.{At, Nowhere}
+use Rattle.unit.specs.Extents.{cornersOf, extremesOf, latExtent, lonExtent, spanOf}
+use Rattle.unit.specs.Chosen.{choose}
+
+-- The finest of the level 9 + n and those below it whose nominal size times 32 is greater than a span
+abbrev pub scaleFrom : ℕ → ℕ → ℕ
+scaleFrom span zero = 9
+scaleFrom span (suc n) = cond (ltb span (sizeOf (10 + n) * 32)) (10 + n) (scaleFrom span n)
+
+-- Scale: L is the finest level, at most 27, whose nominal size times 32 is greater than Span
+unfoldable pub scaleOf : ℕ → ℕ
+scaleOf span = scaleFrom span 18
+
+-- A distance, divided by s and rounded up, plus 1
+abbrev pub distance : ℕ → ℕ → ℕ
+distance a b = (a - b) + (b - a)
+
+abbrev pub spanCells : ℕ → ℕ → ℕ
+spanCells s d = (d + (s - 1)) / s + 1
+
+-- Four spans, order E, W, S, N, from the south-west corner of the location cell as reference; and the unit number
+unfoldable pub fieldsOf : Rectangle → ℕ → Cell → Fields
+fieldsOf r number c =
+    let p : Point = cornerOf (locationCell c) in
+    let level : ℕ = scaleOf (spanOf r) in
+    record {
+      reference = p;
+      scale = level;
+      east = spanCells (sizeOf level) (distance (p .lon .0) (r .east .0));
+      west = spanCells (sizeOf level) (distance (p .lon .0) (r .west .0));
+      south = spanCells (sizeOf level) (distance (p .lat .0) (r .south .0));
+      north = spanCells (sizeOf level) (distance (p .lat .0) (r .north .0));
+      number = number;
+    }
+
+-- A coordinate above its range
+abbrev pub aboveRange : Point → Bool
+aboveRange p = ltb latEnd (p .lat .0) || ltb lonEnd (p .lon .0)
+
+-- Building with a number not in 1 to 1,048,575, or other kind with a number not 0
+abbrev pub badNumber : Kind → ℕ → Bool
+badNumber Building number = outside 1 1048575 number
+badNumber Other number = not (eqb number 0)
+
+-- No cell of levels 9 to 27 is inside
+abbrev pub noCell : Choice → Bool
+noCell (At c) = false
+noCell Nowhere = true
+
+-- A span above 31
+abbrev pub above31 : Fields → Bool
+above31 f = (ltb 31 (f .east) || ltb 31 (f .west)) || (ltb 31 (f .south) || ltb 31 (f .north))
+
+abbrev pub spanAbove : Rectangle → ℕ → Choice → Bool
+spanAbove r number (At c) = above31 (fieldsOf r number c)
+spanAbove r number Nowhere = false
+
+-- The code of a unit from its extremes, its number and its chosen cell
+abbrev pub codeAt : Rectangle → ℕ → Choice → List ℕ
+codeAt r number (At c) = codeOf (fieldsOf r number c)
+codeAt r number Nowhere = []
+
+-- Coding, 4 to 8: what the corners, the kind and the unit number tell
+unfoldable pub cornerChecks : List Point → Kind → ℕ → List Check
+cornerChecks corners kind number =
+    let r : Rectangle = extremesOf corners in
+    let above : ℕ = firstPlace aboveRange corners in
+    check-at 4 (ltb above (length corners)) above
+    ∷ check 5 (ltb 7372800 (latExtent r) || ltb 7372800 (lonExtent r))
+    ∷ check 6 (badNumber kind number)
+    ∷ check 7 (noCell (choose corners))
+    ∷ check 8 (spanAbove r number (choose corners))
+    ∷ []
+
+-- Coding: 1 to 3, then the others
+abbrev pub codeChecks : List ℕ → List ℕ → Kind → ℕ → List Check
+codeChecks room numbers kind number =
+    check 1 (ltb (length room) 20)
+    ∷ check 2 (eqb (length numbers % 2) 1)
+    ∷ check 3 (outside 3 1024 (length numbers / 2))
+    ∷ cornerChecks (cornersOf numbers) kind number
+
+-- Coding, from room, numbers, kind and unit number to what it says and the room
+unfoldable pub coding : List ℕ → List ℕ → Kind → ℕ → Outcome
+coding room numbers kind number =
+    outcome (run (codeChecks room numbers kind number))
+    (codeAt (extremesOf (cornersOf numbers)) number (choose (cornersOf numbers)))
+    room
