@@ -1,0 +1,141 @@
+-- Document 01, "The listing program", sentence by sentence: what a number, a line and a reply are. A text is the list of its bytes.
+-- Assumes nothing.
+use Prim.Native.Nat.{ℕ, zero, suc, _+_, _-_, _*_, _/_, _%_}
+use Prim.Native.String.{String, [] as []ˢ, _∷_ as _∷ˢ_}
+use Prim.Native.Char.{Char, code}
+use mathlib.Core.Bool.{Bool, true, false, cond, not, _&&_, _||_}
+use mathlib.Core.List.{List, [], _∷_, _++_, map}
+use lib.ListN.{length, getD}
+use lib.Dec.{leb, ltb, eqb}
+
+-- a quoted text as its bytes
+abbrev pub bytes : String → List ℕ
+bytes []ˢ = []
+bytes (c ∷ˢ s) = code c ∷ bytes s
+
+-- ---- cutting
+
+-- every element of a list passes a test
+abbrev pub every : {A : Type 0} → (A → Bool) → List A → Bool
+every p [] = true
+every p (x ∷ xs) = p x && every p xs
+
+-- pieces whose first is longer by a byte in front
+abbrev pub longer : ℕ → List (List ℕ) → List (List ℕ)
+longer x [] = (x ∷ []) ∷ []
+longer x (p ∷ ps) = (x ∷ p) ∷ ps
+
+-- the pieces of a text between the bytes b: one more than there are of them
+unfoldable pub cut : ℕ → List ℕ → List (List ℕ)
+cut b [] = [] ∷ []
+cut b (x ∷ text) = cond (eqb x b) ([] ∷ cut b text) (longer x (cut b text))
+
+-- ---- "Numbers are decimal, 1 to 10 digits, at most 4,294,967,295, no leading zero but in `0`."
+
+-- a decimal digit, `0` to `9`
+abbrev pub isDigit : ℕ → Bool
+isDigit b = leb 48 b && leb b 57
+
+-- the value of a number n with decimal digits after it
+unfoldable pub valueAfter : ℕ → List ℕ → ℕ
+valueAfter n [] = n
+valueAfter n (d ∷ digits) = valueAfter (10 * n + (d - 48)) digits
+
+-- the value of decimal digits
+abbrev pub value : List ℕ → ℕ
+value word = valueAfter 0 word
+
+-- a leading zero but in `0`
+abbrev pub zeroLeads : List ℕ → Bool
+zeroLeads word = ltb 1 (length word) && eqb (getD word 0 0) 48
+
+-- a word that is a number
+unfoldable pub isNumber : List ℕ → Bool
+isNumber word = leb 1 (length word) && leb (length word) 10 && not (zeroLeads word) && (every isDigit word && leb (value word) 4294967295)
+
+-- ---- "Standard input, a unit a line: `B` or `F` (building, other), a space, the number, then coordinates, each after one space."
+
+-- the kind that a word names
+pub data Kind : Type 0 where
+  building other neither : Kind
+
+-- what stands in a line: a unit, or a line not of this form
+pub data Form : Type 0 where
+  unit : (kind : Kind) (number : ℕ) (coordinates : List ℕ) → Form
+  notOfThisForm : Form
+
+-- `B` or `F` (building, other)
+unfoldable pub kindOf : List ℕ → Kind
+kindOf [] = neither
+kindOf (b ∷ []) = cond (eqb b 66) building (cond (eqb b 70) other neither)
+kindOf (b ∷ x ∷ text) = neither
+
+-- the unit of a kind, a number and coordinates
+abbrev pub unitOf : Kind → List ℕ → Form
+unitOf building (number ∷ coordinates) = unit building number coordinates
+unitOf building [] = notOfThisForm
+unitOf other (number ∷ coordinates) = unit other number coordinates
+unitOf other [] = notOfThisForm
+unitOf neither numbers = notOfThisForm
+
+-- the form of words: the first a kind, the others numbers
+abbrev pub formOf : List (List ℕ) → Form
+formOf [] = notOfThisForm
+formOf (kind ∷ words) = cond (every isNumber words) (unitOf (kindOf kind) (map value words)) notOfThisForm
+
+-- the form of a line: words with one space between them
+unfoldable pub form : List ℕ → Form
+form line = formOf (cut 32 line)
+
+-- ---- "A last line needs no line feed, and none starts after a line feed that ends the input." "Empty input gives no output."
+
+-- pieces without the last, where that is empty
+abbrev pub withoutEmptyLast : List (List ℕ) → List (List ℕ)
+withoutEmptyLast [] = []
+withoutEmptyLast ([] ∷ []) = []
+withoutEmptyLast ((b ∷ line) ∷ []) = (b ∷ line) ∷ []
+withoutEmptyLast (line ∷ next ∷ lines) = line ∷ withoutEmptyLast (next ∷ lines)
+
+-- the lines of an input
+unfoldable pub linesOf : List ℕ → List (List ℕ)
+linesOf input = withoutEmptyLast (cut 10 input)
+
+-- ---- "Refused 10: more than 24,576 bytes before the line feed or the end of input." "Refused 9: any other line not of this form."
+
+-- the most bytes of a line that is not refused 10
+abbrev pub longest : ℕ
+longest = 24576
+
+-- 9 for a line not of this form, 0 for a unit
+abbrev pub formRefusal : Form → ℕ
+formRefusal (unit kind number coordinates) = 0
+formRefusal notOfThisForm = 9
+
+-- what a line is refused for before its unit is looked at, or 0
+unfoldable pub lineRefusal : List ℕ → ℕ
+lineRefusal line = cond (ltb longest (length line)) 10 (formRefusal (form line))
+
+-- ---- "Output per line: line number from 1, a space, then the code or `refused`, number and place, each after one space, and a line feed."
+
+-- the decimal spelling of n, where n is below the count
+unfoldable pub spelling : ℕ → ℕ → List ℕ
+spelling zero n = []
+spelling (suc count) n = cond (ltb n 10) ((48 + n) ∷ []) (spelling count (n / 10) ++ ((48 + n % 10) ∷ []))
+
+-- the decimal spelling of a number
+abbrev pub decimal : ℕ → List ℕ
+decimal n = spelling (n + 1) n
+
+-- what is said of a line
+pub data Said : Type 0 where
+  coded : (text : List ℕ) → Said
+  refused : (number place : ℕ) → Said
+
+-- the code, or `refused`, number and place, each after one space
+abbrev pub saying : Said → List ℕ
+saying (coded text) = text
+saying (refused number place) = bytes "refused " ++ decimal number ++ bytes " " ++ decimal place
+
+-- the reply to the line with a number
+unfoldable pub replyLine : ℕ → Said → List ℕ
+replyLine number said = decimal number ++ bytes " " ++ saying said ++ bytes "\n"

@@ -1,0 +1,58 @@
+-- What the contracts of `src/` cite beside the page: a word at a position, a line that grows in a room, a text put into a buffer.
+-- Assumes nothing.
+use Prim.Native.Nat.{ℕ, zero, suc, _+_, _-_, min}
+use mathlib.Core.Bool.{Bool, true, false, cond, _&&_}
+use mathlib.Core.List.{List, [], _∷_, _++_, map}
+use lib.ListN.{length, getD, take, drop, set}
+use lib.Seq.{paste}
+use lib.Dec.{leb, ltb, eqb}
+use Rattle.lines.specs.Lines.{every, cut, isNumber, isDigit, value, valueAfter}
+use Rattle.lines.specs.declared.number.Number.{Number}
+use Rattle.lines.specs.declared.number.Number.the-variants.{At, Bad}
+use Rattle.lines.specs.declared.number.Word.{Word}
+use Rattle.lines.specs.declared.number.Word.the-variants.{Value, Other}
+use Rattle.lines.specs.declared.line.Line.{Line}
+
+-- ---- a number at a position
+
+-- the word that a text starts with: its bytes before the first space
+unfoldable pub word : List ℕ → List ℕ
+word [] = []
+word (b ∷ text) = cond (eqb b 32) [] (b ∷ word text)
+
+-- the value of a number n with a word after it, where the word has digits alone and the value is at most 4,294,967,295
+unfoldable pub digitsAfter : ℕ → List ℕ → Word
+digitsAfter n word = cond (every isDigit word && leb (valueAfter n word) 4294967295) (Value (valueAfter n word)) Other
+
+-- the value of a word that is a number
+unfoldable pub wordOf : List ℕ → Word
+wordOf word = cond (isNumber word) (Value (value word)) Other
+
+-- a word's value, with the position after it
+abbrev pub endingAt : ℕ → Word → Number
+endingAt end (Value n) = At n end
+endingAt end Other = Bad
+
+-- the number that starts at a position of a line
+unfoldable pub numberAt : List ℕ → ℕ → Number
+numberAt line at = endingAt (at + length (word (drop at line))) (wordOf (word (drop at line)))
+
+-- ---- a line that grows in a room
+
+-- a line of no bytes yet
+abbrev pub empty : Line
+empty = record { len = 0; long = false }
+
+-- a line after one byte more, where a room has `room` bytes
+unfoldable pub grown : ℕ → Line → Line
+grown room line = cond (ltb (line .len) room) (record { len = line .len + 1; long = line .long }) (record { len = line .len; long = true })
+
+-- ---- a text put into a buffer at a position
+
+-- how many elements of a text fit into a buffer from a position on
+abbrev pub fitting : {A : Type 0} → List A → ℕ → List A → ℕ
+fitting out at text = min (length text) (length out - at)
+
+-- a buffer with as much of a text as fits from a position on
+unfoldable pub putAt : {A : Type 0} → List A → ℕ → List A → List A
+putAt out at text = paste out at text (fitting out at text)

@@ -1,0 +1,15 @@
+// The listing's lines: numbers in a line, a line that grows byte by byte, and texts and numbers put
+// into an output buffer.
+//
+// No function here reads or writes anything but what it is lent, none has a `requires`, and each
+// contract is an equation to a definition of specs/.
+mod line;
+mod number;
+mod output;
+
+pub use line::Line;
+pub use line::add;
+pub use number::Number;
+pub use number::number_at;
+pub use output::put;
+pub use output::put_decimal;

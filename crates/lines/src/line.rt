@@ -1,0 +1,28 @@
+// A line of the input as it comes in, byte by byte, into a room that the caller lends.
+ghost use mathlib.Core.Path.{_≡_};
+ghost use lib.ListN.{length, set};
+ghost use Rattle.lines.specs.Places.{grown};
+
+// How many bytes of a line stand in the room, and whether the line had more than the room takes.
+pub struct Line {
+    pub len: usize,
+    pub long: bool,
+}
+
+// A line after one byte more, which is not a line feed. The byte goes into the room while the room
+// lasts; the rest of a long line is passed over.
+pub fn add(line: Line, room: &mut [u8], byte: u8) -> Line
+    ensures { λ r. ⌜ r ≡ grown (length (now (room .entry))) line ⌝ }
+    ensures { λ _. ⌜ now (room .exit) ≡ set (now (room .entry)) (line .len) byte ⌝ }
+{
+    let len = line.len;
+    if len < room.len() {
+        room[len] = byte;
+        Line {
+            len: len + 1,
+            long: line.long,
+        }
+    } else {
+        Line { len, long: true }
+    }
+}
