@@ -1,4 +1,7 @@
--- What the contracts of `lines` cite: the page's definitions, what they mean at a position of a line, and the laws between them.
+-- What the contracts of `lines` cite: the page's definitions, what they mean at a position or in a room, and the laws of both.
 pub mod Lines
 pub mod Places
-pub mod Laws
+pub mod NumberLaws
+pub mod SpellingLaws
+pub mod RoomLaws
+pub mod Counting

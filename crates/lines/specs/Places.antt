@@ -9,6 +9,8 @@ use lib.Dec.{leb, ltb, eqb}
 use Rattle.lines.specs.Lines.{every, cut, isNumber, isDigit, value, valueAfter}
 use Rattle.lines.specs.declared.number.Number.{Number}
 use Rattle.lines.specs.declared.number.Number.the-variants.{At, Bad}
+use Rattle.lines.specs.declared.number.Numbers.{Numbers}
+use Rattle.lines.specs.declared.number.Numbers.the-variants.{Count, Bad as Bad·s}
 use Rattle.lines.specs.declared.number.Word.{Word}
 use Rattle.lines.specs.declared.number.Word.the-variants.{Value, Other}
 use Rattle.lines.specs.declared.line.Line.{Line}
@@ -37,6 +39,33 @@ endingAt end Other = Bad
 unfoldable pub numberAt : List ℕ → ℕ → Number
 numberAt line at = endingAt (at + length (word (drop at line))) (wordOf (word (drop at line)))
 
+-- ---- the numbers of a text, each after one space
+
+-- the values of words up to the first that is no number
+unfoldable pub leading : List (List ℕ) → List ℕ
+leading [] = []
+leading (word ∷ words) = cond (isNumber word) (value word ∷ leading words) []
+
+-- the same of the pieces of a text, of which the first stands before the first space and is empty
+abbrev pub leadingOf : List (List ℕ) → List ℕ
+leadingOf [] = []
+leadingOf ([] ∷ words) = leading words
+leadingOf ((b ∷ piece) ∷ words) = []
+
+-- how many numbers the words are, where all are numbers
+abbrev pub countOf : List (List ℕ) → Numbers
+countOf [] = Bad·s
+countOf ([] ∷ words) = cond (every isNumber words) (Count (length words)) Bad·s
+countOf ((b ∷ piece) ∷ words) = Bad·s
+
+-- the numbers of a text up to the first word that is none
+unfoldable pub leadingIn : List ℕ → List ℕ
+leadingIn text = leadingOf (cut 32 text)
+
+-- how many numbers a text is
+unfoldable pub countIn : List ℕ → Numbers
+countIn text = countOf (cut 32 text)
+
 -- ---- a line that grows in a room
 
 -- a line of no bytes yet
@@ -46,6 +75,12 @@ empty = record { len = 0; long = false }
 -- a line after one byte more, where a room has `room` bytes
 unfoldable pub grown : ℕ → Line → Line
 grown room line = cond (ltb (line .len) room) (record { len = line .len + 1; long = line .long }) (record { len = line .len; long = true })
+
+-- whether a line starts with the bytes of a text
+unfoldable pub startsWith : List ℕ → List ℕ → Bool
+startsWith line [] = true
+startsWith [] (b ∷ text) = false
+startsWith (a ∷ line) (b ∷ text) = eqb a b && startsWith line text
 
 -- ---- a text put into a buffer at a position
 

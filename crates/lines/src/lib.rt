@@ -7,9 +7,13 @@ mod line;
 mod number;
 mod output;
 
+pub use line::LONGEST;
 pub use line::Line;
 pub use line::add;
+pub use line::starts;
 pub use number::Number;
+pub use number::Numbers;
 pub use number::number_at;
+pub use number::numbers_at;
 pub use output::put;
 pub use output::put_decimal;

@@ -1,7 +1,10 @@
 // A line of the input as it comes in, byte by byte, into a room that the caller lends.
 ghost use mathlib.Core.Path.{_≡_};
 ghost use lib.ListN.{length, set};
-ghost use Rattle.lines.specs.Places.{grown};
+ghost use Rattle.lines.specs.Places.{grown, startsWith};
+
+// The most bytes of a line that is not refused 10: the length of the room for a line.
+pub const LONGEST: usize = 24576;
 
 // How many bytes of a line stand in the room, and whether the line had more than the room takes.
 pub struct Line {
@@ -25,4 +28,21 @@ pub fn add(line: Line, room: &mut [u8], byte: u8) -> Line
     } else {
         Line { len, long: true }
     }
+}
+
+// Whether a line starts with the bytes of a text.
+pub fn starts(line: &[u8], text: &[u8]) -> bool
+    ensures { λ r. ⌜ r ≡ startsWith (now (line .entry)) (now (text .entry)) ⌝ }
+{
+    let mut i = 0;
+    while i < text.len() {
+        if line.len() <= i {
+            return false;
+        }
+        if line[i] != text[i] {
+            return false;
+        }
+        i += 1;
+    }
+    true
 }

@@ -1,12 +1,18 @@
 // Numbers of a line.
 ghost use Prim.Native.Nat.{_+_};
 ghost use mathlib.Core.Path.{_≡_};
-ghost use lib.ListN.{length, drop};
-ghost use Rattle.lines.specs.Places.{word as Places·word, digitsAfter, wordOf, numberAt};
+ghost use lib.ListN.{length, drop, set};
+ghost use Rattle.lines.specs.Places.{word as Places·word, digitsAfter, wordOf, numberAt, countIn, leadingIn, putAt};
 
 // A number of a line, with the position just after its last digit; or none.
 pub enum Number {
     At(u32, usize),
+    Bad,
+}
+
+// How many numbers there are; or that what stands there is not of this form.
+pub enum Numbers {
+    Count(usize),
     Bad,
 }
 
@@ -31,6 +37,38 @@ pub fn number_at(line: &[u8], at: usize) -> Number
     match word {
         Word::Value(value) => Number::At(value, end),
         Word::Other => Number::Bad,
+    }
+}
+
+// All numbers of a line from a position to the line's end, each after one space. The first of them
+// go into the room, as many as it takes, and all of them are counted.
+pub fn numbers_at(line: &[u8], at: usize, room: &mut [u32]) -> Numbers
+    ensures { λ r. ⌜ r ≡ countIn (drop at (now (line .entry))) ⌝ }
+    ensures { λ _. ⌜ now (room .exit) ≡ putAt (now (room .entry)) 0 (leadingIn (drop at (now (line .entry)))) ⌝ }
+{
+    let mut count = 0;
+    let mut i = at;
+    while i < line.len() {
+        if line[i] != b' ' {
+            return Numbers::Bad;
+        }
+        let number = number_at(line, i + 1);
+        let Number::At(value, end) = number else {
+            return Numbers::Bad;
+        };
+        keep(room, count, value);
+        count += 1;
+        i = end;
+    }
+    Numbers::Count(count)
+}
+
+// Puts a number at an index of a room that has it; past the room's end nothing is kept.
+fn keep(room: &mut [u32], i: usize, value: u32)
+    ensures { λ _. ⌜ now (room .exit) ≡ set (now (room .entry)) i value ⌝ }
+{
+    if i < room.len() {
+        room[i] = value;
     }
 }
 

@@ -6,7 +6,7 @@ use Prim.Native.Nat.{_+_, _*_, _≤_, _-_}
 use mathlib.Core.Path.{_≡_, refl, sym, _∙_}
 use lib.ListN.{length, drop, getD}
 use Rattle.lines.specs.Places.{digitsAfter}
-use Rattle.lines.specs.Laws.{digits-end, digits-below, digits-above, digits-more, digits-over}
+use Rattle.lines.specs.NumberLaws.{digits-end, digits-below, digits-above, digits-more, digits-over}
 use Rattle.lines.proofs.number.digits.Statement.{statement}
 use Rattle.lines.proofs.number.digits.Tie as tie
 use Rattle.lines.proofs.number.digits.Reads as reads

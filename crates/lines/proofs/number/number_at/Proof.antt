@@ -2,7 +2,7 @@
 -- Assumes nothing.
 use mathlib.Core.Path.{sym, ap, _∙_}
 use Rattle.lines.specs.Places.{endingAt}
-use Rattle.lines.specs.Laws.{number-past, number-within}
+use Rattle.lines.specs.NumberLaws.{number-past, number-within}
 use borrow.Author.Needs.{needs}
 use Rattle.lines.proofs.number.number_at.Statement.{statement}
 use Rattle.lines.proofs.number.number_at.Tie as tie

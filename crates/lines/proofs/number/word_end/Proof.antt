@@ -6,7 +6,7 @@ use Prim.Native.Nat.{_+_, _-_}
 use mathlib.Core.Path.{_≡_, ap, _∙_}
 use lib.ListN.{length, drop}
 use Rattle.lines.specs.Places.{word}
-use Rattle.lines.specs.Laws.{word-end, word-space, word-more}
+use Rattle.lines.specs.NumberLaws.{word-end, word-space, word-more}
 use Rattle.lines.proofs.number.word_end.Statement.{statement}
 use Rattle.lines.proofs.number.word_end.Tie as tie
 use Rattle.lines.proofs.number.word_end.Reads as reads

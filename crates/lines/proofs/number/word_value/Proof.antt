@@ -2,7 +2,7 @@
 -- Assumes nothing.
 use native.Mathlib.Omega.{arith}
 use mathlib.Core.Path.{sym, _∙_}
-use Rattle.lines.specs.Laws.{word-none, word-many, word-zero, word-one, word-digits}
+use Rattle.lines.specs.NumberLaws.{word-none, word-many, word-zero, word-one, word-digits}
 use borrow.Author.Needs.{needs}
 use Rattle.lines.proofs.number.word_value.Statement.{statement}
 use Rattle.lines.proofs.number.word_value.Tie as tie

@@ -5,7 +5,7 @@ use native.Mathlib.Omega.{arith}
 use mathlib.Core.Path.{ap, _∙_}
 use mathlib.Core.List.{List}
 use Rattle.lines.specs.Places.{fitting, putAt}
-use Rattle.lines.specs.Laws.{spelled}
+use Rattle.lines.specs.SpellingLaws.{spelled}
 use borrow.Author.Needs.{needs}
 use Rattle.lines.proofs.output.put_decimal.Statement.{statement}
 use Rattle.lines.proofs.output.put_decimal.Tie as tie
