@@ -1,6 +1,7 @@
 -- What the contracts of `src/` cite beside the page: a word at a position, a line that grows in a room, a text put into a buffer.
 -- Assumes nothing.
 use Prim.Native.Nat.{ℕ, zero, suc, _+_, _-_, min}
+use mathlib.Core.Path.{_≡_}
 use mathlib.Core.Bool.{Bool, true, false, cond, _&&_}
 use mathlib.Core.List.{List, [], _∷_, _++_, map}
 use lib.ListN.{length, getD, take, drop, set}
@@ -91,3 +92,8 @@ fitting out at text = min (length text) (length out - at)
 -- a buffer with as much of a text as fits from a position on
 unfoldable pub putAt : {A : Type 0} → List A → ℕ → List A → List A
 putAt out at text = paste out at text (fitting out at text)
+
+-- what putting a text into a buffer at a position leaves: the position after the text, and the buffer
+pub record Put (out : List ℕ) (at : ℕ) (text : List ℕ) (end : ℕ) (after : List ℕ) : Type 0 where
+  pub ends : end ≡ at + fitting out at text
+  pub holds : after ≡ putAt out at text

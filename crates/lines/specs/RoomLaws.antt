@@ -9,11 +9,11 @@ use mathlib.Core.Path.{_≡_, refl, sym, ap, _∙_}
 use mathlib.Core.Logic.{_⊎_, ⊎-elim, inl, inr}
 use mathlib.Core.Bool.{Bool, true, false, cond, _||_, or-true, or-false}
 use mathlib.Core.List.{List, [], _∷_, _++_}
-use lib.ListN.{length, take, drop, getD, set, drop-of-length-le, length-set}
+use lib.ListN.{length, take, drop, getD, set, drop-of-length-le, length-set, length-append}
 use lib.Seq.{drop-cons, paste, paste-zero, set-out, take-suc-set, drop-set-lt, append-snoc, take-all, take-paste, drop-paste}
 use lib.Dec.{ltb}
 use borrow.Author.Tests.{ltb-true, ltb-false, lt-ltb, le-ltb, eq-eqb, ne-eqb}
-use Rattle.lines.specs.Places.{grown, empty, startsWith, putAt}
+use Rattle.lines.specs.Places.{grown, empty, startsWith, fitting, putAt, Put}
 use Rattle.lines.specs.declared.line.Line.{Line}
 
 lt-or-le : (m n : ℕ) → (m < n) ⊎ (n ≤ m)
@@ -59,6 +59,44 @@ put-cons {A} out at a text = ⊎-elim within past (lt-or-le at (length out))
         ∙ ap (λ (r : List A). r ++ take k text ++ drop (at + 1 + k) (set out at a)) (ap (λ (n : ℕ). take n (set out at a)) (add-one at) ∙ take-suc-set out at a h)
         ∙ ap (λ (r : List A). r ++ drop (at + 1 + k) (set out at a)) (append-snoc (take at out) a (take k text))
         ∙ ap (λ (r : List A). take at out ++ (a ∷ take k text) ++ r) (drop-set-lt (at + 1 + k) out at a (omega arith)))
+
+-- a buffer keeps its length
+pub length-put : {A : Type 0} (out : List A) (at : ℕ) (text : List A) → length (putAt out at text) ≡ length out
+length-put out at [] = ap length (put-nil out at)
+length-put out at (a ∷ text) = ap length (put-cons out at a text) ∙ length-put (set out at a) (at + 1) text ∙ length-set out at a
+
+-- a text after a text
+put-append : (s out : List ℕ) (at : ℕ) (t : List ℕ) → putAt (putAt out at s) (at + fitting out at s) t ≡ putAt out at (s ++ t)
+put-append [] out at t =
+    let none : at + min 0 (length out - at) ≡ at = omega arith in
+    ap (λ (n : ℕ). putAt (putAt out at []) n t) none ∙ ap (λ (o : List ℕ). putAt o at t) (put-nil out at)
+put-append (a ∷ s) out at t =
+    ⊎-elim
+    (λ (h : at < length out).
+    let next : at + min (suc (length s)) (length out - at) ≡ at + 1 + min (length s) (length (set out at a) - (at + 1)) = omega (arith, length-set out at a) in
+    ap (λ (n : ℕ). putAt (putAt out at (a ∷ s)) n t) next
+    ∙ ap (λ (o : List ℕ). putAt o (at + 1 + fitting (set out at a) (at + 1) s) t) (put-cons out at a s)
+    ∙ put-append s (set out at a) (at + 1) t
+    ∙ sym (put-cons out at a (s ++ t)))
+    (λ (h : length out ≤ at).
+    let none : at + min (suc (length s)) (length out - at) ≡ at = omega arith in
+    ap (λ (n : ℕ). putAt (putAt out at (a ∷ s)) n t) none
+    ∙ ap (λ (o : List ℕ). putAt o at t) (put-none out at (a ∷ s) h)
+    ∙ put-none out at t h
+    ∙ sym (put-none out at (a ∷ s ++ t) h))
+    (lt-or-le at (length out))
+
+pub put-then : {out : List ℕ} {at : ℕ} {s t : List ℕ} {end last : ℕ} {after final : List ℕ} → Put out at s end after → Put after end t last final → Put out at (s ++ t) last final
+put-then {out} {at} {s} {t} {end} p q =
+    let room = ap length (p .holds) ∙ length-put out at s in
+    record {
+      ends = omega (arith, p .ends, q .ends, room, length-append s t);
+      holds =
+          q .holds
+          ∙ ap (λ (o : List ℕ). putAt o end t) (p .holds)
+          ∙ ap (λ (n : ℕ). putAt (putAt out at s) n t) (p .ends)
+          ∙ put-append s out at t;
+    }
 
 -- ---- a line that grows
 

@@ -16,4 +16,6 @@ pub use number::Numbers;
 pub use number::number_at;
 pub use number::numbers_at;
 pub use output::put;
+pub use output::put_code;
 pub use output::put_decimal;
+pub use output::put_refused;

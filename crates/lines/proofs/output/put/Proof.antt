@@ -76,11 +76,15 @@ same-length c = search needs
 returns : tie.Need-returns Inv-loop μ-loop
 unfolding putAt
 returns c =
+    let out = c .before .before .before .before .before .args .out .now in
+    let at = c .before .before .before .before .before .args .at in
+    let text = c .before .before .before .before .before .args .text .now in
     let n = c .before .before .fitting .result in
-    let full : c .before .loop .i ≡ n = omega arith in (
-      ap (λ (k : ℕ). c .before .before .before .before .before .args .at + k) (c .before .before .fitting .ensures),
-      c .before .loop .inv .2 ∙ ap (paste (c .before .before .before .before .before .args .out .now) (c .before .before .before .before .before .args .at) (c .before .before .before .before .before .args .text .now)) (full ∙ c .before .before .fitting .ensures),
-    )
+    let full : c .before .loop .i ≡ n = omega arith in
+    record {
+      ends = ap (λ (k : ℕ). at + k) (c .before .before .fitting .ensures);
+      holds = c .before .loop .inv .2 ∙ ap (paste out at text) (full ∙ c .before .before .fitting .ensures);
+    }
 
 pub put-spec : {M : Type 1} → statement M
 put-spec =

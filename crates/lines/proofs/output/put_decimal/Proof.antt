@@ -37,12 +37,10 @@ same-length c = search needs
 -- src/output.rt:22:1
 returns : tie.Need-returns
 returns c =
-    let out = c .before .before .before .before .before .before .before .before .args .out .now in
-    let at = c .before .before .before .before .before .before .before .before .args .at in
     let n = c .before .before .before .before .before .before .before .before .args .n in
     let said = c .before .before .before .before .before .decimal .ensures in
     let text = said .1 .1 ∙ spelled (c .before .before .before .before .before .decimal .result) n (n + 1) (omega arith) (said .1 .0) in
-    (c .before .before .put .ensures .0 ∙ ap (λ (t : List ℕ). at + fitting out at t) text, c .before .before .put .ensures .1 ∙ ap (putAt out at) text)
+    rw text at (c .before .before .put .ensures)
 
 pub put-decimal-spec : {M : Type 1} → statement M
 put-decimal-spec =
