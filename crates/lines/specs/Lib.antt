@@ -5,3 +5,4 @@ pub mod NumberLaws
 pub mod SpellingLaws
 pub mod RoomLaws
 pub mod Counting
+pub mod UnitLaws

@@ -34,12 +34,12 @@ cut b (x ∷ text) = cond (eqb x b) ([] ∷ cut b text) (longer x (cut b text))
 
 -- a decimal digit, `0` to `9`
 abbrev pub isDigit : ℕ → Bool
-isDigit b = leb 48 b && leb b 57
+isDigit b = leb (code "0") b && leb b (code "9")
 
 -- the value of a number n with decimal digits after it
 unfoldable pub valueAfter : ℕ → List ℕ → ℕ
 valueAfter n [] = n
-valueAfter n (d ∷ digits) = valueAfter (10 * n + (d - 48)) digits
+valueAfter n (d ∷ digits) = valueAfter (10 * n + (d - code "0")) digits
 
 -- the value of decimal digits
 abbrev pub value : List ℕ → ℕ
@@ -47,7 +47,7 @@ value word = valueAfter 0 word
 
 -- a leading zero but in `0`
 abbrev pub zeroLeads : List ℕ → Bool
-zeroLeads word = ltb 1 (length word) && eqb (getD word 0 0) 48
+zeroLeads word = ltb 1 (length word) && eqb (getD word 0 0) (code "0")
 
 -- a word that is a number
 unfoldable pub isNumber : List ℕ → Bool
@@ -55,37 +55,26 @@ isNumber word = leb 1 (length word) && leb (length word) 10 && not (zeroLeads wo
 
 -- ---- "Standard input, a unit a line: `B` or `F` (building, other), a space, the number, then coordinates, each after one space."
 
--- the kind that a word names
-pub data Kind : Type 0 where
-  building other neither : Kind
-
--- what stands in a line: a unit, or a line not of this form
+-- what stands in a line: a unit, its kind by the letter, or a line not of this form
 pub data Form : Type 0 where
-  unit : (kind : Kind) (number : ℕ) (coordinates : List ℕ) → Form
+  unit : (kind number : ℕ) (coordinates : List ℕ) → Form
   notOfThisForm : Form
 
 -- `B` or `F` (building, other)
-unfoldable pub kindOf : List ℕ → Kind
-kindOf [] = neither
-kindOf (b ∷ []) = cond (eqb b 66) building (cond (eqb b 70) other neither)
-kindOf (b ∷ x ∷ text) = neither
+abbrev pub isKind : List ℕ → Bool
+isKind [] = false
+isKind (b ∷ []) = eqb b (code "B") || eqb b (code "F")
+isKind (b ∷ x ∷ text) = false
 
--- the unit of a kind, a number and coordinates
-abbrev pub unitOf : Kind → List ℕ → Form
-unitOf building (number ∷ coordinates) = unit building number coordinates
-unitOf building [] = notOfThisForm
-unitOf other (number ∷ coordinates) = unit other number coordinates
-unitOf other [] = notOfThisForm
-unitOf neither numbers = notOfThisForm
-
--- the form of words: the first a kind, the others numbers
+-- the form of a line's words
 abbrev pub formOf : List (List ℕ) → Form
 formOf [] = notOfThisForm
-formOf (kind ∷ words) = cond (every isNumber words) (unitOf (kindOf kind) (map value words)) notOfThisForm
+formOf (kind ∷ []) = notOfThisForm
+formOf (kind ∷ number ∷ coordinates) = cond (isKind kind && (isNumber number && every isNumber coordinates)) (unit (getD kind 0 0) (value number) (map value coordinates)) notOfThisForm
 
 -- the form of a line: words with one space between them
 unfoldable pub form : List ℕ → Form
-form line = formOf (cut 32 line)
+form line = formOf (cut (code " ") line)
 
 -- ---- "A last line needs no line feed, and none starts after a line feed that ends the input." "Empty input gives no output."
 
@@ -98,7 +87,7 @@ withoutEmptyLast (line ∷ next ∷ lines) = line ∷ withoutEmptyLast (next ∷
 
 -- the lines of an input
 unfoldable pub linesOf : List ℕ → List (List ℕ)
-linesOf input = withoutEmptyLast (cut 10 input)
+linesOf input = withoutEmptyLast (cut (code "\n") input)
 
 -- ---- "Refused 10: more than 24,576 bytes before the line feed or the end of input." "Refused 9: any other line not of this form."
 
@@ -120,7 +109,7 @@ lineRefusal line = cond (ltb longest (length line)) 10 (formRefusal (form line))
 -- the decimal spelling of n, where n is below the count
 unfoldable pub spelling : ℕ → ℕ → List ℕ
 spelling zero n = []
-spelling (suc count) n = cond (ltb n 10) ((48 + n) ∷ []) (spelling count (n / 10) ++ ((48 + n % 10) ∷ []))
+spelling (suc count) n = cond (ltb n 10) ((code "0" + n) ∷ []) (spelling count (n / 10) ++ ((code "0" + n % 10) ∷ []))
 
 -- the decimal spelling of a number
 abbrev pub decimal : ℕ → List ℕ

@@ -1,19 +1,22 @@
 -- What the contracts of `src/` cite beside the page: a word at a position, a line that grows in a room, a text put into a buffer.
 -- Assumes nothing.
 use Prim.Native.Nat.{ℕ, zero, suc, _+_, _-_, min}
+use Prim.Native.Char.{code}
 use mathlib.Core.Path.{_≡_}
 use mathlib.Core.Bool.{Bool, true, false, cond, _&&_}
 use mathlib.Core.List.{List, [], _∷_, _++_, map}
 use lib.ListN.{length, getD, take, drop, set}
 use lib.Seq.{paste}
 use lib.Dec.{leb, ltb, eqb}
-use Rattle.lines.specs.Lines.{every, cut, isNumber, isDigit, value, valueAfter}
+use Rattle.lines.specs.Lines.{Form, unit, notOfThisForm, isKind, formOf, every, cut, isNumber, isDigit, value, valueAfter}
 use Rattle.lines.specs.declared.number.Number.{Number}
 use Rattle.lines.specs.declared.number.Number.the-variants.{At, Bad}
 use Rattle.lines.specs.declared.number.Numbers.{Numbers}
 use Rattle.lines.specs.declared.number.Numbers.the-variants.{Count, Bad as Bad·s}
 use Rattle.lines.specs.declared.number.Word.{Word}
 use Rattle.lines.specs.declared.number.Word.the-variants.{Value, Other}
+use Rattle.lines.specs.declared.unit.Unit.{Unit}
+use Rattle.lines.specs.declared.unit.Unit.the-variants.{Stated, Bad as Bad·u}
 use Rattle.lines.specs.declared.line.Line.{Line}
 
 -- ---- a number at a position
@@ -21,7 +24,7 @@ use Rattle.lines.specs.declared.line.Line.{Line}
 -- the word that a text starts with: its bytes before the first space
 unfoldable pub word : List ℕ → List ℕ
 word [] = []
-word (b ∷ text) = cond (eqb b 32) [] (b ∷ word text)
+word (b ∷ text) = cond (eqb b (code " ")) [] (b ∷ word text)
 
 -- the value of a number n with a word after it, where the word has digits alone and the value is at most 4,294,967,295
 unfoldable pub digitsAfter : ℕ → List ℕ → Word
@@ -61,11 +64,35 @@ countOf ((b ∷ piece) ∷ words) = Bad·s
 
 -- the numbers of a text up to the first word that is none
 unfoldable pub leadingIn : List ℕ → List ℕ
-leadingIn text = leadingOf (cut 32 text)
+leadingIn text = leadingOf (cut (code " ") text)
 
 -- how many numbers a text is
 unfoldable pub countIn : List ℕ → Numbers
-countIn text = countOf (cut 32 text)
+countIn text = countOf (cut (code " ") text)
+
+-- ---- the unit of a line
+
+-- a unit by its kind, its number and how many coordinates it has
+abbrev pub unitSaid : Form → Unit
+unitSaid (unit kind number coordinates) = Stated kind number (length coordinates)
+unitSaid notOfThisForm = Bad·u
+
+-- the coordinates up to the first word that is no number, in a line that starts with a kind and a number
+abbrev pub coordinatesOf : List (List ℕ) → List ℕ
+coordinatesOf [] = []
+coordinatesOf (kind ∷ []) = []
+coordinatesOf (kind ∷ number ∷ words) = cond (isKind kind && isNumber number) (leading words) []
+
+-- the same of a line
+unfoldable pub coordinatesIn : List ℕ → List ℕ
+coordinatesIn line = coordinatesOf (cut (code " ") line)
+
+-- the unit and the coordinates of a line that starts with a kind and a space
+unfoldable pub unitAfter : ℕ → List ℕ → Unit
+unitAfter kind line = unitSaid (formOf ((kind ∷ []) ∷ cut (code " ") (drop 2 line)))
+
+unfoldable pub coordinatesAfter : ℕ → List ℕ → List ℕ
+coordinatesAfter kind line = coordinatesOf ((kind ∷ []) ∷ cut (code " ") (drop 2 line))
 
 -- ---- a line that grows in a room
 
