@@ -6,3 +6,4 @@ pub mod SpellingLaws
 pub mod RoomLaws
 pub mod Counting
 pub mod UnitLaws
+pub mod Examples

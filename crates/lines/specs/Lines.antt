@@ -106,14 +106,14 @@ lineRefusal line = cond (ltb longest (length line)) 10 (formRefusal (form line))
 
 -- ---- "Output per line: line number from 1, a space, then the code or `refused`, number and place, each after one space, and a line feed."
 
--- the decimal spelling of n, where n is below the count
+-- the decimal spelling of n in `count` digits at most
 unfoldable pub spelling : ℕ → ℕ → List ℕ
 spelling zero n = []
 spelling (suc count) n = cond (ltb n 10) ((code "0" + n) ∷ []) (spelling count (n / 10) ++ ((code "0" + n % 10) ∷ []))
 
--- the decimal spelling of a number
+-- the decimal spelling of a number, of which a machine's have 20 digits at most
 abbrev pub decimal : ℕ → List ℕ
-decimal n = spelling (n + 1) n
+decimal n = spelling 20 n
 
 -- what is said of a line
 pub data Said : Type 0 where

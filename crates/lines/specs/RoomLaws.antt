@@ -16,7 +16,7 @@ use borrow.Author.Tests.{ltb-true, ltb-false, lt-ltb, le-ltb, eq-eqb, ne-eqb}
 use Rattle.lines.specs.Places.{grown, empty, startsWith, fitting, putAt, Put}
 use Rattle.lines.specs.declared.line.Line.{Line}
 
-lt-or-le : (m n : ℕ) → (m < n) ⊎ (n ≤ m)
+pub lt-or-le : (m n : ℕ) → (m < n) ⊎ (n ≤ m)
 lt-or-le m n = go (ltb m n) refl
   where
     go : (e : Bool) → ltb m n ≡ e → (m < n) ⊎ (n ≤ m)

@@ -1,15 +1,28 @@
 -- The law of the decimal spelling that proofs cite. Assumes nothing.
-use Prim.Native.Nat.{ℕ, zero, suc, _/_, _%_, _^_, _≤_, _<_}
-use native.Mathlib.Nat.{suc-sub-suc, sub-zero, mod-eq-of-lt, mod-lt, pow-suc, one-le-pow, div-lt-iff-lt-mul, le-div-iff-mul-le}
+use Prim.Native.Nat.{ℕ, zero, suc, _-_, _/_, _%_, _^_, _≤_, _<_}
+use native.Mathlib.Nat.{le-trans, not-le-of-lt, pow-le-pow-right, suc-sub-suc, sub-zero, mod-eq-of-lt, mod-lt, pow-suc, one-le-pow, div-lt-iff-lt-mul, le-div-iff-mul-le}
 use native.Mathlib.Omega.{arith}
 use mathlib.Core.Path.{_≡_}
+use mathlib.Core.Logic.{⊎-elim}
 use lib.Dec.{lit<}
 use borrow.Author.Tests.{lt-ltb, le-ltb}
 use Rattle.io.specs.Digits.{digits, Fewest}
 use Rattle.lines.specs.Lines.{spelling}
+use Rattle.lines.specs.RoomLaws.{lt-or-le}
+
+-- a number below 10 ^ 20 has 20 digits at most
+pub few-digits : (k n : ℕ) → n < 10 ^ 20 → Fewest 10 1 n k → k ≤ 20
+few-digits k n h few =
+    ⊎-elim
+    (λ (m : 20 < k).
+    let below : 20 ≤ k - 1 = omega arith in
+    let long : 10 ^ 20 ≤ 10 ^ (k - 1) = pow-le-pow-right (lit< tt) below in
+    absurd (not-le-of-lt h (le-trans long (few .2 (omega arith)))))
+    (λ (m : k ≤ 20). m)
+    (lt-or-le 20 k)
 
 -- the fewest decimal digits that hold a number are its spelling
-pub spelled : (k n count : ℕ) → n < count → Fewest 10 1 n k → digits 10 k n ≡ spelling count n
+pub spelled : (k n count : ℕ) → k ≤ count → Fewest 10 1 n k → digits 10 k n ≡ spelling count n
 unfolding spelling
 spelled k n zero h few = absurd (omega arith)
 spelled zero n (suc count) h few = absurd (omega arith)

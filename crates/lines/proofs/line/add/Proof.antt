@@ -8,27 +8,20 @@ use Rattle.lines.specs.Places.{grown}
 use borrow.Author.Needs.{needs}
 use Rattle.lines.proofs.line.add.Statement.{statement}
 use Rattle.lines.proofs.line.add.Tie as tie
-use Rattle.lines.proofs.line.add.Reads as reads
-use Rattle.lines.proofs.line.add.Lts as lts
 
--- src/line.rt:20:9
 slice-write-room : tie.Need-slice-write-room
 slice-write-room c = search needs
 
--- src/line.rt:22:18
 add-t9 : tie.Need-add-t9
 add-t9 c = search needs
 
--- src/line.rt:14:1
 same-length : tie.Need-same-length
 same-length c = search needs
 
--- src/line.rt:14:1
 returns : tie.Need-returns
 unfolding grown
 returns c = (rw (lt-ltb (c .before .args .line .len) (length (c .before .args .room .now)) (c .if1 .taken)), refl)
 
--- src/line.rt:14:1
 returns-2 : tie.Need-returns-2
 unfolding grown
 returns-2 c = (

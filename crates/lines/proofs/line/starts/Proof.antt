@@ -7,8 +7,6 @@ use Rattle.lines.specs.Places.{startsWith}
 use Rattle.lines.specs.RoomLaws.{starts-end, starts-short, starts-other, starts-more}
 use Rattle.lines.proofs.line.starts.Statement.{statement}
 use Rattle.lines.proofs.line.starts.Tie as tie
-use Rattle.lines.proofs.line.starts.Reads as reads
-use Rattle.lines.proofs.line.starts.Lts as lts
 
 abbrev Inv-loop : tie.InvT-loop
 Inv-loop line text i₀ i = startsWith line text ≡ startsWith (drop i line) (drop i text)
@@ -16,11 +14,9 @@ Inv-loop line text i₀ i = startsWith line text ≡ startsWith (drop i line) (d
 abbrev μ-loop : tie.MeasureT-loop
 μ-loop line text i₀ i = length text - i
 
--- src/line.rt:38:5
 loop-holds : tie.Need-loop-holds Inv-loop μ-loop
 loop-holds c = refl
 
--- src/line.rt:40:13
 returns : tie.Need-returns Inv-loop μ-loop
 returns c =
     let line = c .before .before .before .args .line .now in
@@ -28,15 +24,12 @@ returns c =
     let i = c .before .before .loop .i in
     sym (c .before .before .loop .inv ∙ starts-short line text i (search needs) (c .if1 .taken))
 
--- src/line.rt:42:12
 shared-slice-read-if2 : tie.Need-shared-slice-read-if2 Inv-loop μ-loop
 shared-slice-read-if2 c = search needs
 
--- src/line.rt:42:23
 shared-slice-read-if2-2 : tie.Need-shared-slice-read-if2-2 Inv-loop μ-loop
 shared-slice-read-if2-2 c = search needs
 
--- src/line.rt:43:13
 returns-2 : tie.Need-returns-2 Inv-loop μ-loop
 returns-2 c =
     let line = c .before .before .before .before .before .before .args .line .now in
@@ -44,15 +37,12 @@ returns-2 c =
     let i = c .before .before .before .before .before .loop .i in
     sym (c .before .before .before .before .before .loop .inv ∙ starts-other line text i (search needs) (search needs) (c .if2 .taken))
 
--- src/line.rt:45:9
 add-i : tie.Need-add-i Inv-loop μ-loop
 add-i c = search needs
 
--- src/line.rt:38:5
 loop-less : tie.Need-loop-less Inv-loop μ-loop
 loop-less c = search needs
 
--- src/line.rt:38:5
 loop-again : tie.Need-loop-again Inv-loop μ-loop
 loop-again c =
     let line = c .before .before .before .before .before .before .args .line .now in
@@ -60,7 +50,6 @@ loop-again c =
     let i = c .before .before .before .before .before .loop .i in
     c .before .before .before .before .before .loop .inv ∙ starts-more line text i (search needs) (search needs) (c .if2 .left)
 
--- src/line.rt:34:1
 returns-3 : tie.Need-returns-3 Inv-loop μ-loop
 returns-3 c =
     let line = c .before .before .args .line .now in

@@ -9,8 +9,6 @@ use Rattle.lines.specs.Places.{digitsAfter}
 use Rattle.lines.specs.NumberLaws.{digits-end, digits-below, digits-above, digits-more, digits-over}
 use Rattle.lines.proofs.number.digits.Statement.{statement}
 use Rattle.lines.proofs.number.digits.Tie as tie
-use Rattle.lines.proofs.number.digits.Reads as reads
-use Rattle.lines.proofs.number.digits.Lts as lts
 
 abbrev Inv-loop : tie.InvT-loop
 Inv-loop word value₀ i₀ value i =
@@ -19,15 +17,12 @@ Inv-loop word value₀ i₀ value i =
 abbrev μ-loop : tie.MeasureT-loop
 μ-loop word value₀ i₀ value i = length word - i
 
--- src/number.rt:73:5
 loop-holds : tie.Need-loop-holds Inv-loop μ-loop
 loop-holds c = (search needs, search needs, refl)
 
--- src/number.rt:74:21
 shared-slice-read-digit : tie.Need-shared-slice-read-digit Inv-loop μ-loop
 shared-slice-read-digit c = search needs
 
--- src/number.rt:76:13
 returns : tie.Need-returns Inv-loop μ-loop
 returns c =
     let word = c .before .before .before .before .args .word .now in
@@ -35,7 +30,6 @@ returns c =
     let value = c .before .before .before .loop .value in
     sym (c .before .before .before .loop .inv .2 ∙ digits-below word i value (search needs) (c .if1 .taken))
 
--- src/number.rt:79:13
 returns-2 : tie.Need-returns-2 Inv-loop μ-loop
 returns-2 c =
     let word = c .before .before .before .before .before .args .word .now in
@@ -43,19 +37,15 @@ returns-2 c =
     let value = c .before .before .before .before .loop .value in
     sym (c .before .before .before .before .loop .inv .2 ∙ digits-above word i value (search needs) (c .if2 .taken))
 
--- src/number.rt:81:17
 mul-value : tie.Need-mul-value Inv-loop μ-loop
 mul-value c = search needs
 
--- src/number.rt:81:30
 cast-value : tie.Need-cast-value Inv-loop μ-loop
 cast-value c = search needs
 
--- src/number.rt:81:17
 add-value : tie.Need-add-value Inv-loop μ-loop
 add-value c = search needs
 
--- src/number.rt:83:13
 returns-3 : tie.Need-returns-3 Inv-loop μ-loop
 returns-3 c =
     let word = c .before .before .before .before .before .before .args .word .now in
@@ -66,15 +56,12 @@ returns-3 c =
     ∙ digits-more word i value (search needs) (search needs) (search needs)
     ∙ digits-over (10 * value + (getD word i 0 - 48)) (drop (i + 1) word) (c .if3 .taken))
 
--- src/number.rt:85:9
 add-i : tie.Need-add-i Inv-loop μ-loop
 add-i c = search needs
 
--- src/number.rt:73:5
 loop-less : tie.Need-loop-less Inv-loop μ-loop
 loop-less c = search needs
 
--- src/number.rt:73:5
 loop-again : tie.Need-loop-again Inv-loop μ-loop
 loop-again c =
     let word = c .before .before .before .before .before .before .args .word .now in
@@ -85,11 +72,9 @@ loop-again c =
       c .before .before .before .before .before .loop .inv .2 ∙ digits-more word i value (search needs) (search needs) (search needs),
     )
 
--- src/number.rt:87:17
 cast-t11 : tie.Need-cast-t11 Inv-loop μ-loop
 cast-t11 c = search needs
 
--- src/number.rt:68:1
 returns-4 : tie.Need-returns-4 Inv-loop μ-loop
 returns-4 c =
     let word = c .before .before .args .word .now in

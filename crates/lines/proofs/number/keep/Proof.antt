@@ -4,26 +4,19 @@ use lib.Seq.{set-out}
 use borrow.Author.Needs.{needs}
 use Rattle.lines.proofs.number.keep.Statement.{statement}
 use Rattle.lines.proofs.number.keep.Tie as tie
-use Rattle.lines.proofs.number.keep.Reads as reads
-use Rattle.lines.proofs.number.keep.Lts as lts
 
--- src/number.rt:71:9
 mul-room : tie.Need-mul-room
 mul-room c = search needs
 
--- src/number.rt:71:9
 slice-write-room : tie.Need-slice-write-room
 slice-write-room c = search needs
 
--- src/number.rt:67:1
 same-length : tie.Need-same-length
 same-length c = search needs
 
--- src/number.rt:67:1
 returns : tie.Need-returns
 returns c = search needs
 
--- src/number.rt:67:1
 returns-2 : tie.Need-returns-2
 returns-2 c = sym (set-out (c .before .args .room .now) (c .before .args .i) (c .before .args .value) (c .if1 .left))
 

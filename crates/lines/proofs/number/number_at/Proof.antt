@@ -6,45 +6,32 @@ use Rattle.lines.specs.NumberLaws.{number-past, number-within}
 use borrow.Author.Needs.{needs}
 use Rattle.lines.proofs.number.number_at.Statement.{statement}
 use Rattle.lines.proofs.number.number_at.Tie as tie
-use Rattle.lines.proofs.number.number_at.Reads as reads
-use Rattle.lines.proofs.number.number_at.Lts as lts
-use Rattle.lines.proofs.number.word_end.Reads as word-end-reads
-use Rattle.lines.proofs.number.word_value.Reads as word-value-reads
 
--- src/number.rt:26:9
 word-end-requires : tie.Need-word-end-requires
 word-end-requires c κs = search needs
 
--- src/number.rt:28:9
 returns : tie.Need-returns
 returns c =
     sym (number-past (c .before .before .before .args .line .now) (c .before .before .before .args .at) (c .before .word-end .result) (c .before .word-end .ensures) (c .if1 .taken))
 
--- src/number.rt:30:27
 sub-word-value : tie.Need-sub-word-value
 sub-word-value c = search needs
 
--- src/number.rt:30:27
 part-word-value-start : tie.Need-part-word-value-start
 part-word-value-start c = search needs
 
--- src/number.rt:30:27
 part-word-value-end : tie.Need-part-word-value-end
 part-word-value-end c = search needs
 
--- src/number.rt:30:9
 word-value-requires : tie.Need-word-value-requires
 word-value-requires c κs = search needs
 
--- src/number.rt:32:21
 enum-known-word : tie.Need-enum-known-word
 enum-known-word c = search needs
 
--- src/number.rt:33:24
 enum-told : tie.Need-enum-told
 enum-told c = search needs
 
--- src/number.rt:23:1
 returns-2 : tie.Need-returns-2
 returns-2 c =
     let line = c .before .before .before .before .before .before .before .before .args .line .now in
@@ -52,7 +39,6 @@ returns-2 c =
     let end = c .before .before .before .before .before .before .word-end .result in
     sym (number-within line at end (c .before .before .before .before .before .before .word-end .ensures) ∙ ap (endingAt end) (sym (c .before .before .before .word-value .ensures) ∙ c .before .word .given .1))
 
--- src/number.rt:23:1
 returns-3 : tie.Need-returns-3
 returns-3 c =
     let line = c .before .before .before .before .before .before .before .args .line .now in

@@ -9,10 +9,6 @@ use lib.ListN.{length}
 use Rattle.lines.specs.Counting.{Counted, counted-begin, counted-end, counted-other, counted-bad, counted-more, counted-further}
 use Rattle.lines.proofs.number.numbers_at.Statement.{statement}
 use Rattle.lines.proofs.number.numbers_at.Tie as tie
-use Rattle.lines.proofs.number.numbers_at.Reads as reads
-use Rattle.lines.proofs.number.numbers_at.Lts as lts
-use Rattle.lines.proofs.number.keep.Reads as keep-reads
-use Rattle.lines.proofs.number.number_at.Reads as number-at-reads
 
 abbrev Inv-loop : tie.InvT-loop
 Inv-loop line at room₀ count₀ i₀ room count i = Counted line at room₀ room count i
@@ -20,19 +16,15 @@ Inv-loop line at room₀ count₀ i₀ room count i = Counted line at room₀ ro
 abbrev μ-loop : tie.MeasureT-loop
 μ-loop line at room₀ count₀ i₀ room count i = length line - i
 
--- src/number.rt:51:5
 loop-holds : tie.Need-loop-holds Inv-loop μ-loop
 loop-holds c = counted-begin (c .before .before .args .line .now) (c .before .before .args .at) (c .before .before .args .room .now)
 
--- src/number.rt:52:12
 shared-slice-read-if1 : tie.Need-shared-slice-read-if1 Inv-loop μ-loop
 shared-slice-read-if1 c = search needs
 
--- src/number.rt:53:13
 same-length : tie.Need-same-length Inv-loop μ-loop
 same-length c = search needs
 
--- src/number.rt:53:13
 returns : tie.Need-returns Inv-loop μ-loop
 returns c =
     let line = c .before .before .before .before .before .before .args .line .now in
@@ -41,27 +33,21 @@ returns c =
     let here = c .before .before .before .loop in
     counted-other line at lent (here .room) (here .count) (here .i) (here .inv) (search needs) (c .if1 .taken)
 
--- src/number.rt:55:38
 add-number-at : tie.Need-add-number-at Inv-loop μ-loop
 add-number-at c = search needs
 
--- src/number.rt:55:13
 number-at-requires : tie.Need-number-at-requires Inv-loop μ-loop
 number-at-requires c κs = search needs
 
--- src/number.rt:56:24
 enum-known-number : tie.Need-enum-known-number Inv-loop μ-loop
 enum-known-number c = search needs
 
--- src/number.rt:57:13
 enum-told : tie.Need-enum-told Inv-loop μ-loop
 enum-told c = search needs
 
--- src/number.rt:57:13
 same-length-2 : tie.Need-same-length-2 Inv-loop μ-loop
 same-length-2 c = search needs
 
--- src/number.rt:57:13
 returns-2 : tie.Need-returns-2 Inv-loop μ-loop
 returns-2 c =
     let line = c .before .before .before .before .before .before .before .before .before .args .line .now in
@@ -71,15 +57,12 @@ returns-2 c =
     counted-bad line at lent (here .room) (here .count) (here .i) (here .inv) (search needs) (c .before .before .before .if1 .left)
     (sym (c .before .before .number-at .ensures) ∙ c .enum-told .given .1)
 
--- src/number.rt:59:9
 keep-requires : tie.Need-keep-requires Inv-loop μ-loop
 keep-requires c κs = search needs
 
--- src/number.rt:60:9
 add-count : tie.Need-add-count Inv-loop μ-loop
 add-count c = search needs
 
--- src/number.rt:51:5
 loop-less : tie.Need-loop-less Inv-loop μ-loop
 loop-less c =
     let line = c .before .before .before .before .before .before .before .before .before .before .before .before .before .before .args .line .now in
@@ -89,7 +72,6 @@ loop-less c =
     let seen = c .before .before .before .before .before .number .given in
     omega (arith, counted-further line at lent (here .room) (here .count) (here .i) (here .inv) (seen .0 .0) (seen .0 .1 .0) (sym (c .before .before .before .before .before .before .before .number-at .ensures) ∙ seen .1))
 
--- src/number.rt:51:5
 loop-again : tie.Need-loop-again Inv-loop μ-loop
 loop-again c =
     let line = c .before .before .before .before .before .before .before .before .before .before .before .before .before .before .args .line .now in
@@ -100,11 +82,9 @@ loop-again c =
     rw (c .before .before .keep .ensures)
     (counted-more line at lent (here .room) (here .count) (here .i) (here .inv) (seen .0 .0) (seen .0 .1 .0) (search needs) (c .before .before .before .before .before .before .before .before .if1 .left) (sym (c .before .before .before .before .before .before .before .number-at .ensures) ∙ seen .1))
 
--- src/number.rt:45:1
 same-length-3 : tie.Need-same-length-3 Inv-loop μ-loop
 same-length-3 c = search needs
 
--- src/number.rt:45:1
 returns-3 : tie.Need-returns-3 Inv-loop μ-loop
 returns-3 c =
     let line = c .before .before .before .before .args .line .now in

@@ -9,8 +9,6 @@ use Rattle.lines.specs.Places.{word}
 use Rattle.lines.specs.NumberLaws.{word-end, word-space, word-more}
 use Rattle.lines.proofs.number.word_end.Statement.{statement}
 use Rattle.lines.proofs.number.word_end.Tie as tie
-use Rattle.lines.proofs.number.word_end.Reads as reads
-use Rattle.lines.proofs.number.word_end.Lts as lts
 
 abbrev Inv-loop : tie.InvT-loop
 Inv-loop line at i₀ i = at + length (word (drop at line)) ≡ i + length (word (drop i line))
@@ -18,37 +16,30 @@ Inv-loop line at i₀ i = at + length (word (drop at line)) ≡ i + length (word
 abbrev μ-loop : tie.MeasureT-loop
 μ-loop line at i₀ i = length line - i
 
--- src/number.rt:42:5
 loop-holds : tie.Need-loop-holds Inv-loop μ-loop
 loop-holds c = search needs
 
--- src/number.rt:43:12
 shared-slice-read-if1 : tie.Need-shared-slice-read-if1 Inv-loop μ-loop
 shared-slice-read-if1 c = search needs
 
--- src/number.rt:44:13
 returns : tie.Need-returns Inv-loop μ-loop
 returns c =
     let i = c .before .before .before .loop .i in
     let line = c .before .before .before .before .args .line .now in
     omega (arith, c .before .before .before .loop .inv, ap length (word-space line i (search needs) (c .if1 .taken)))
 
--- src/number.rt:46:9
 add-i : tie.Need-add-i Inv-loop μ-loop
 add-i c = search needs
 
--- src/number.rt:42:5
 loop-less : tie.Need-loop-less Inv-loop μ-loop
 loop-less c = search needs
 
--- src/number.rt:42:5
 loop-again : tie.Need-loop-again Inv-loop μ-loop
 loop-again c =
     let i = c .before .before .before .loop .i in
     let line = c .before .before .before .before .args .line .now in
     c .before .before .before .loop .inv ∙ word-more line i (search needs) (c .if1 .left)
 
--- src/number.rt:38:1
 returns-2 : tie.Need-returns-2 Inv-loop μ-loop
 returns-2 c =
     omega (arith, ap length (word-end (c .before .before .args .line .now) (c .before .loop .i) (search needs)))

@@ -6,39 +6,28 @@ use Rattle.lines.specs.NumberLaws.{word-none, word-many, word-zero, word
 use borrow.Author.Needs.{needs}
 use Rattle.lines.proofs.number.word_value.Statement.{statement}
 use Rattle.lines.proofs.number.word_value.Tie as tie
-use Rattle.lines.proofs.number.word_value.Reads as reads
-use Rattle.lines.proofs.number.word_value.Lts as lts
-use Rattle.lines.proofs.number.digits.Reads as digits-reads
 
--- src/number.rt:56:9
 returns : tie.Need-returns
 returns c = sym (word-none (c .before .before .args .word .now) (c .if1 .taken))
 
--- src/number.rt:59:9
 returns-2 : tie.Need-returns-2
 returns-2 c = sym (word-many (c .before .before .before .args .word .now) (c .if2 .taken))
 
--- src/number.rt:62:9
 digits-requires : tie.Need-digits-requires
 digits-requires c κs = search needs
 
--- src/number.rt:62:9
 returns-3 : tie.Need-returns-3
 returns-3 c = c .digits .ensures ∙ sym (word-one (c .before .before .before .before .before .args .word .now) (search needs))
 
--- src/number.rt:64:8
 shared-slice-read-if4 : tie.Need-shared-slice-read-if4
 shared-slice-read-if4 c = search needs
 
--- src/number.rt:65:9
 returns-4 : tie.Need-returns-4
 returns-4 c = sym (word-zero (c .before .before .before .before .before .before .args .word .now) (omega arith) (search needs) (c .if4 .taken))
 
--- src/number.rt:67:5
 digits-requires-2 : tie.Need-digits-requires-2
 digits-requires-2 c κs = search needs
 
--- src/number.rt:52:1
 returns-5 : tie.Need-returns-5
 returns-5 c =
     c .digits2 .ensures ∙ sym (word-digits (c .before .before .before .before .before .before .before .args .word .now) (omega arith) (search needs) (c .before .if4 .left))

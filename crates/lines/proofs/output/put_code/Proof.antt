@@ -4,40 +4,28 @@ use Rattle.lines.specs.RoomLaws.{put-then}
 use borrow.Author.Needs.{needs}
 use Rattle.lines.proofs.output.put_code.Statement.{statement}
 use Rattle.lines.proofs.output.put_code.Tie as tie
-use Rattle.lines.proofs.output.put_code.Reads as reads
-use Rattle.lines.proofs.output.put_code.Lts as lts
-use Rattle.lines.proofs.output.put.Reads as put-reads
-use Rattle.lines.proofs.output.put_decimal.Reads as put-decimal-reads
 
--- src/output.rt:33:9
 put-decimal-requires : tie.Need-put-decimal-requires
 put-decimal-requires c κs = search needs
 
--- src/output.rt:34:29
 slice-aggregate-put : tie.Need-slice-aggregate-put
 slice-aggregate-put c = search needs
 
--- src/output.rt:34:9
 put-requires : tie.Need-put-requires
 put-requires c κs = search needs
 
--- src/output.rt:35:9
 put-requires-2 : tie.Need-put-requires-2
 put-requires-2 c κs = search needs
 
--- src/output.rt:36:19
 slice-aggregate-put-2 : tie.Need-slice-aggregate-put-2
 slice-aggregate-put-2 c = search needs
 
--- src/output.rt:36:5
 put-requires-3 : tie.Need-put-requires-3
 put-requires-3 c κs = search needs
 
--- src/output.rt:30:1
 same-length : tie.Need-same-length
 same-length c = search needs
 
--- src/output.rt:30:1
 returns : tie.Need-returns
 unfolding replyLine
 returns c =

@@ -3,40 +3,28 @@ use Rattle.lines.specs.RoomLaws.{put-then}
 use borrow.Author.Needs.{needs}
 use Rattle.lines.proofs.output.put_refusal.Statement.{statement}
 use Rattle.lines.proofs.output.put_refusal.Tie as tie
-use Rattle.lines.proofs.output.put_refusal.Reads as reads
-use Rattle.lines.proofs.output.put_refusal.Lts as lts
-use Rattle.lines.proofs.output.put.Reads as put-reads
-use Rattle.lines.proofs.output.put_decimal.Reads as put-decimal-reads
 
--- src/output.rt:53:28
 slice-aggregate-put : tie.Need-slice-aggregate-put
 slice-aggregate-put c = search needs
 
--- src/output.rt:53:9
 put-requires : tie.Need-put-requires
 put-requires c κs = search needs
 
--- src/output.rt:54:9
 put-decimal-requires : tie.Need-put-decimal-requires
 put-decimal-requires c κs = search needs
 
--- src/output.rt:55:29
 slice-aggregate-put-2 : tie.Need-slice-aggregate-put-2
 slice-aggregate-put-2 c = search needs
 
--- src/output.rt:55:9
 put-requires-2 : tie.Need-put-requires-2
 put-requires-2 c κs = search needs
 
--- src/output.rt:56:5
 put-decimal-requires-2 : tie.Need-put-decimal-requires-2
 put-decimal-requires-2 c κs = search needs
 
--- src/output.rt:50:1
 same-length : tie.Need-same-length
 same-length c = search needs
 
--- src/output.rt:50:1
 returns : tie.Need-returns
 returns c =
     let first = c .before .before .before .before .before .before .before .before .before .before .before .before .before .before .before .put .ensures in

@@ -4,41 +4,28 @@ use Rattle.lines.specs.RoomLaws.{put-then}
 use borrow.Author.Needs.{needs}
 use Rattle.lines.proofs.output.put_refused.Statement.{statement}
 use Rattle.lines.proofs.output.put_refused.Tie as tie
-use Rattle.lines.proofs.output.put_refused.Reads as reads
-use Rattle.lines.proofs.output.put_refused.Lts as lts
-use Rattle.lines.proofs.output.put.Reads as put-reads
-use Rattle.lines.proofs.output.put_decimal.Reads as put-decimal-reads
-use Rattle.lines.proofs.output.put_refusal.Reads as put-refusal-reads
 
--- src/output.rt:44:9
 put-decimal-requires : tie.Need-put-decimal-requires
 put-decimal-requires c κs = search needs
 
--- src/output.rt:45:29
 slice-aggregate-put : tie.Need-slice-aggregate-put
 slice-aggregate-put c = search needs
 
--- src/output.rt:45:9
 put-requires : tie.Need-put-requires
 put-requires c κs = search needs
 
--- src/output.rt:46:9
 put-refusal-requires : tie.Need-put-refusal-requires
 put-refusal-requires c κs = search needs
 
--- src/output.rt:47:19
 slice-aggregate-put-2 : tie.Need-slice-aggregate-put-2
 slice-aggregate-put-2 c = search needs
 
--- src/output.rt:47:5
 put-requires-2 : tie.Need-put-requires-2
 put-requires-2 c κs = search needs
 
--- src/output.rt:41:1
 same-length : tie.Need-same-length
 same-length c = search needs
 
--- src/output.rt:41:1
 returns : tie.Need-returns
 unfolding replyLine
 returns c =

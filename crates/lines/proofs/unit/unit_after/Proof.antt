@@ -7,24 +7,16 @@ use Rattle.lines.specs.UnitLaws.{unit-no-number, unit-no-coordinate, uni
 use borrow.Author.Needs.{needs}
 use Rattle.lines.proofs.unit.unit_after.Statement.{statement}
 use Rattle.lines.proofs.unit.unit_after.Tie as tie
-use Rattle.lines.proofs.unit.unit_after.Reads as reads
-use Rattle.lines.proofs.unit.unit_after.Lts as lts
-use Rattle.lines.proofs.number.number_at.Reads as number-at-reads
-use Rattle.lines.proofs.number.numbers_at.Reads as numbers-at-reads
 
--- src/unit.rt:41:9
 number-at-requires : tie.Need-number-at-requires
 number-at-requires c κs = search needs
 
--- src/unit.rt:42:20
 enum-known-number : tie.Need-enum-known-number
 enum-known-number c = search needs
 
--- src/unit.rt:43:9
 enum-told : tie.Need-enum-told
 enum-told c = search needs
 
--- src/unit.rt:43:9
 returns : tie.Need-returns
 returns c =
     let kind = c .before .before .before .before .before .args .kind in
@@ -34,23 +26,18 @@ returns c =
     let none = unit-no-number kind line known (sym (c .before .before .number-at .ensures) ∙ c .enum-told .given .1) in
     (sym (none .0), sym (ap (putAt room 0) (none .1) ∙ put-nil room 0))
 
--- src/unit.rt:45:9
 numbers-at-requires : tie.Need-numbers-at-requires
 numbers-at-requires c κs = search needs
 
--- src/unit.rt:46:24
 enum-known-coordinates : tie.Need-enum-known-coordinates
 enum-known-coordinates c = search needs
 
--- src/unit.rt:47:9
 enum-told-2 : tie.Need-enum-told-2
 enum-told-2 c = search needs
 
--- src/unit.rt:47:9
 same-length : tie.Need-same-length
 same-length c = search needs
 
--- src/unit.rt:47:9
 returns-2 : tie.Need-returns-2
 returns-2 c =
     let kind = c .before .before .before .before .before .before .before .before .before .before .before .before .args .kind in
@@ -59,15 +46,14 @@ returns-2 c =
     let known = c .before .before .before .before .before .before .before .before .before .before .before .before .pre in
     let seen = c .before .before .before .before .before .before .before .number .given in
     let at = sym (c .before .before .before .before .before .before .before .before .before .number-at .ensures) ∙ seen .1 in
-    let counted = c .before .before .before .before .numbers-at .ensures in
-    (sym (unit-no-coordinate kind line known (seen .0 .0) (seen .0 .1 .0) at (sym (counted .0) ∙ c .enum-told2 .given .1)),
-    counted .1 ∙ ap (putAt room 0) (sym (unit-coordinates kind line known (seen .0 .0) (seen .0 .1 .0) at)))
+    let counted = c .before .before .before .before .numbers-at .ensures in (
+      sym (unit-no-coordinate kind line known (seen .0 .0) (seen .0 .1 .0) at (sym (counted .0) ∙ c .enum-told2 .given .1)),
+      counted .1 ∙ ap (putAt room 0) (sym (unit-coordinates kind line known (seen .0 .0) (seen .0 .1 .0) at)),
+    )
 
--- src/unit.rt:36:1
 same-length-2 : tie.Need-same-length-2
 same-length-2 c = search needs
 
--- src/unit.rt:36:1
 returns-3 : tie.Need-returns-3
 returns-3 c =
     let kind = c .before .before .before .before .before .before .before .before .before .before .before .before .before .args .kind in
@@ -77,9 +63,10 @@ returns-3 c =
     let seen = c .before .before .before .before .before .before .before .before .number .given in
     let at = sym (c .before .before .before .before .before .before .before .before .before .before .number-at .ensures) ∙ seen .1 in
     let counted = c .before .before .before .before .before .numbers-at .ensures in
-    let all = c .before .coordinates .given in
-    (sym (unit-stated kind line known (seen .0 .0) (seen .0 .1 .0) at (all .0 .0) (sym (counted .0) ∙ all .1)),
-    counted .1 ∙ ap (putAt room 0) (sym (unit-coordinates kind line known (seen .0 .0) (seen .0 .1 .0) at)))
+    let all = c .before .coordinates .given in (
+      sym (unit-stated kind line known (seen .0 .0) (seen .0 .1 .0) at (all .0 .0) (sym (counted .0) ∙ all .1)),
+      counted .1 ∙ ap (putAt room 0) (sym (unit-coordinates kind line known (seen .0 .0) (seen .0 .1 .0) at)),
+    )
 
 pub unit-after-spec : {M : Type 1} → statement M
 unit-after-spec =

@@ -7,62 +7,49 @@ use Rattle.lines.specs.UnitLaws.{unit-starts, coordinates-start, unit-no
 use borrow.Author.Needs.{needs}
 use Rattle.lines.proofs.unit.unit_of.Statement.{statement}
 use Rattle.lines.proofs.unit.unit_of.Tie as tie
-use Rattle.lines.proofs.unit.unit_of.Reads as reads
-use Rattle.lines.proofs.unit.unit_of.Lts as lts
-use Rattle.lines.proofs.line.starts.Reads as starts-reads
-use Rattle.lines.proofs.unit.unit_after.Reads as unit-after-reads
 
--- src/unit.rt:26:21
 slice-aggregate-starts : tie.Need-slice-aggregate-starts
 slice-aggregate-starts c = search needs
 
--- src/unit.rt:26:8
 starts-requires : tie.Need-starts-requires
 starts-requires c κs = search needs
 
--- src/unit.rt:27:9
 unit-after-requires : tie.Need-unit-after-requires
 unit-after-requires c κs = search needs
 
--- src/unit.rt:27:9
 same-length : tie.Need-same-length
 same-length c = search needs
 
--- src/unit.rt:27:9
 returns : tie.Need-returns
 returns c =
     let line = c .before .before .before .before .before .before .before .before .before .args .line .now in
     let room = c .before .before .before .before .before .before .before .before .before .args .room .now in
-    let so = sym (c .before .before .before .before .before .starts .ensures) ∙ c .before .before .before .before .if1 .taken in
-    (c .before .before .unit-after .ensures .0 ∙ sym (unit-starts 66 refl line so),
-    c .before .before .unit-after .ensures .1 ∙ ap (putAt room 0) (sym (coordinates-start 66 refl line so)))
+    let so = sym (c .before .before .before .before .before .starts .ensures) ∙ c .before .before .before .before .if1 .taken in (
+      c .before .before .unit-after .ensures .0 ∙ sym (unit-starts 66 refl line so),
+      c .before .before .unit-after .ensures .1 ∙ ap (putAt room 0) (sym (coordinates-start 66 refl line so)),
+    )
 
--- src/unit.rt:29:21
 slice-aggregate-starts-2 : tie.Need-slice-aggregate-starts-2
 slice-aggregate-starts-2 c = search needs
 
--- src/unit.rt:29:8
 starts-requires-2 : tie.Need-starts-requires-2
 starts-requires-2 c κs = search needs
 
--- src/unit.rt:30:9
 unit-after-requires-2 : tie.Need-unit-after-requires-2
 unit-after-requires-2 c κs = search needs
 
--- src/unit.rt:30:9
 same-length-2 : tie.Need-same-length-2
 same-length-2 c = search needs
 
--- src/unit.rt:30:9
 returns-2 : tie.Need-returns-2
 returns-2 c =
     let line = c .before .before .before .before .before .before .before .before .before .before .before .before .args .line .now in
     let room = c .before .before .before .before .before .before .before .before .before .before .before .before .args .room .now in
-    let so = sym (c .before .before .before .before .before .starts2 .ensures) ∙ c .before .before .before .before .if2 .taken in
-    (c .before .before .unit-after2 .ensures .0 ∙ sym (unit-starts 70 refl line so),
-    c .before .before .unit-after2 .ensures .1 ∙ ap (putAt room 0) (sym (coordinates-start 70 refl line so)))
+    let so = sym (c .before .before .before .before .before .starts2 .ensures) ∙ c .before .before .before .before .if2 .taken in (
+      c .before .before .unit-after2 .ensures .0 ∙ sym (unit-starts 70 refl line so),
+      c .before .before .unit-after2 .ensures .1 ∙ ap (putAt room 0) (sym (coordinates-start 70 refl line so)),
+    )
 
--- src/unit.rt:22:1
 returns-3 : tie.Need-returns-3
 returns-3 c =
     let line = c .before .before .before .before .before .before .before .before .args .line .now in

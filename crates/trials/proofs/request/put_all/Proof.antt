@@ -6,9 +6,6 @@ use mathlib.Core.Path.{_≡_}
 use lib.ListN.{length}
 use Rattle.trials.proofs.request.put_all.Statement.{statement}
 use Rattle.trials.proofs.request.put_all.Tie as tie
-use Rattle.trials.proofs.request.put_all.Reads as reads
-use Rattle.trials.proofs.request.put_all.Lts as lts
-use Rattle.trials.proofs.request.put_after_space.Reads as put-after-space-reads
 
 abbrev Inv-loop : tie.InvT-loop
 Inv-loop numbers out₀ at end₀ i₀ out end i = length out ≡ length out₀
@@ -16,39 +13,30 @@ Inv-loop numbers out₀ at end₀ i₀ out end i = length out ≡ length out₀
 abbrev μ-loop : tie.MeasureT-loop
 μ-loop numbers out₀ at end₀ i₀ out end i = length numbers - i
 
--- src/request.rt:115:5
 loop-holds : tie.Need-loop-holds Inv-loop μ-loop
 loop-holds c = search needs
 
--- src/request.rt:116:41
 mul-put-after-space : tie.Need-mul-put-after-space Inv-loop μ-loop
 mul-put-after-space c = search needs
 
--- src/request.rt:116:41
 shared-slice-read-put-after-space : tie.Need-shared-slice-read-put-after-space Inv-loop μ-loop
 shared-slice-read-put-after-space c = search needs
 
--- src/request.rt:116:9
 put-after-space-requires : tie.Need-put-after-space-requires Inv-loop μ-loop
 put-after-space-requires c κs = search needs
 
--- src/request.rt:117:9
 add-i : tie.Need-add-i Inv-loop μ-loop
 add-i c = search needs
 
--- src/request.rt:115:5
 loop-less : tie.Need-loop-less Inv-loop μ-loop
 loop-less c = search needs
 
--- src/request.rt:115:5
 loop-again : tie.Need-loop-again Inv-loop μ-loop
 loop-again c = search needs
 
--- src/request.rt:112:1
 same-length : tie.Need-same-length Inv-loop μ-loop
 same-length c = search needs
 
--- src/request.rt:112:1
 returns : tie.Need-returns Inv-loop μ-loop
 returns c = search needs
 
