@@ -3,7 +3,7 @@
 use mathlib.Core.Path.{_≡_, refl}
 use mathlib.Core.Bool.{true, false}
 use mathlib.Core.List.{List, [], _∷_, map}
-use Rattle.lines.specs.Lines.{bytes, cut, valueAfter, isNumber, unit, notOfThisForm, form, linesOf, spelling, coded, refused, replyLine}
+use Rattle.lines.specs.Lines.{bytes, outputOf, replies, lineSaid, cut, valueAfter, isNumber, unit, notOfThisForm, form, linesOf, spelling, coded, refused, replyLine}
 
 -- numbers, and what is none
 numbers : map isNumber (bytes "0" ∷ bytes "7" ∷ bytes "10" ∷ bytes "4294967295" ∷ []) ≡ true ∷ true ∷ true ∷ true ∷ []
@@ -52,3 +52,8 @@ page-refusal = refl
 long-number : replyLine 4294967296 (refused 12 1023) ≡ bytes "4294967296 refused 12 1023\n"
 unfolding replyLine spelling
 long-number = refl
+
+-- a whole output, where every unit is refused 3 at the place of its own number
+whole-output : outputOf (λ kind number coordinates. refused 3 number) (bytes "F 0\n\nB 7") ≡ bytes "1 refused 3 0\n2 refused 9 0\n3 refused 3 7\n"
+unfolding outputOf replies lineSaid linesOf cut form isNumber valueAfter replyLine spelling
+whole-output = refl

@@ -13,7 +13,7 @@ abbrev pub bytes : String → List ℕ
 bytes []ˢ = []
 bytes (c ∷ˢ s) = code c ∷ bytes s
 
--- ---- cutting
+-- ---- lists and texts
 
 -- every element of a list passes a test
 abbrev pub every : {A : Type 0} → (A → Bool) → List A → Bool
@@ -49,9 +49,9 @@ value word = valueAfter 0 word
 abbrev pub zeroLeads : List ℕ → Bool
 zeroLeads word = ltb 1 (length word) && eqb (getD word 0 0) (code "0")
 
--- a word that is a number
+-- decimal, 1 to 10 digits, at most 4,294,967,295, no leading zero but in `0`
 unfoldable pub isNumber : List ℕ → Bool
-isNumber word = leb 1 (length word) && leb (length word) 10 && not (zeroLeads word) && (every isDigit word && leb (value word) 4294967295)
+isNumber word = every isDigit word && (leb 1 (length word) && leb (length word) 10) && leb (value word) 4294967295 && not (zeroLeads word)
 
 -- ---- "Standard input, a unit a line: `B` or `F` (building, other), a space, the number, then coordinates, each after one space."
 
@@ -66,13 +66,13 @@ isKind [] = false
 isKind (b ∷ []) = eqb b (code "B") || eqb b (code "F")
 isKind (b ∷ x ∷ text) = false
 
--- the form of a line's words
+-- the form of words: a kind, a number, and any count of coordinates
 abbrev pub formOf : List (List ℕ) → Form
 formOf [] = notOfThisForm
 formOf (kind ∷ []) = notOfThisForm
 formOf (kind ∷ number ∷ coordinates) = cond (isKind kind && (isNumber number && every isNumber coordinates)) (unit (getD kind 0 0) (value number) (map value coordinates)) notOfThisForm
 
--- the form of a line: words with one space between them
+-- the form of a line, whose words have one space between them
 unfoldable pub form : List ℕ → Form
 form line = formOf (cut (code " ") line)
 
@@ -88,21 +88,6 @@ withoutEmptyLast (line ∷ next ∷ lines) = line ∷ withoutEmptyLast (next ∷
 -- the lines of an input
 unfoldable pub linesOf : List ℕ → List (List ℕ)
 linesOf input = withoutEmptyLast (cut (code "\n") input)
-
--- ---- "Refused 10: more than 24,576 bytes before the line feed or the end of input." "Refused 9: any other line not of this form."
-
--- the most bytes of a line that is not refused 10
-abbrev pub longest : ℕ
-longest = 24576
-
--- 9 for a line not of this form, 0 for a unit
-abbrev pub formRefusal : Form → ℕ
-formRefusal (unit kind number coordinates) = 0
-formRefusal notOfThisForm = 9
-
--- what a line is refused for before its unit is looked at, or 0
-unfoldable pub lineRefusal : List ℕ → ℕ
-lineRefusal line = cond (ltb longest (length line)) 10 (formRefusal (form line))
 
 -- ---- "Output per line: line number from 1, a space, then the code or `refused`, number and place, each after one space, and a line feed."
 
@@ -128,3 +113,28 @@ saying (refused number place) = bytes "refused " ++ decimal number ++ bytes " " 
 -- the reply to the line with a number
 unfoldable pub replyLine : ℕ → Said → List ℕ
 replyLine number said = decimal number ++ bytes " " ++ saying said ++ bytes "\n"
+
+-- ---- "Refused 10: more than 24,576 bytes before the line feed or the end of input. Refused 9: any other line not of this form,
+-- ---- empty ones too. Both have place 0 and come before 1 to 8."
+
+-- the most bytes of a line that is not refused 10
+abbrev pub longest : ℕ
+longest = 24576
+
+-- what is said of a form, where `coding` says it of a unit's kind, number and coordinates
+abbrev pub formSaid : (ℕ → ℕ → List ℕ → Said) → Form → Said
+formSaid coding (unit kind number coordinates) = coding kind number coordinates
+formSaid coding notOfThisForm = refused 9 0
+
+-- what is said of a line
+unfoldable pub lineSaid : (ℕ → ℕ → List ℕ → Said) → List ℕ → Said
+lineSaid coding line = cond (ltb longest (length line)) (refused 10 0) (formSaid coding (form line))
+
+-- the replies to lines whose first has a number
+unfoldable pub replies : (ℕ → ℕ → List ℕ → Said) → ℕ → List (List ℕ) → List ℕ
+replies coding number [] = []
+replies coding number (line ∷ lines) = replyLine number (lineSaid coding line) ++ replies coding (number + 1) lines
+
+-- the output for an input: lines are numbered from 1
+unfoldable pub outputOf : (ℕ → ℕ → List ℕ → Said) → List ℕ → List ℕ
+outputOf coding input = replies coding 1 (linesOf input)

@@ -4,7 +4,7 @@ use Prim.Native.Nat.{ℕ, zero, suc, _+_, _-_, _*_, _≤_, _<_}
 use native.Mathlib.Numerals.{add-one}
 use native.Mathlib.Omega.{arith}
 use mathlib.Core.Path.{_≡_, refl, sym, ap, _∙_}
-use mathlib.Core.Bool.{Bool, true, false, cond, _&&_, and-false}
+use mathlib.Core.Bool.{Bool, true, false, cond, _&&_, and-true, and-false}
 use mathlib.Core.List.{List, [], _∷_}
 use lib.ListN.{length, take, drop, getD, length-take, length-drop, drop-of-length-le}
 use lib.Seq.{drop-cons, drop-drop}
@@ -84,23 +84,23 @@ word-length t = omega (arith, ap length (word-taken t) ∙ refl, length-take (le
 module _ (w : List ℕ) where
   pub word-none : length w < 1 → wordOf w ≡ Other
   unfolding wordOf isNumber
-  word-none h = rw (lt-leb 1 (length w) h)
+  word-none h = rw (lt-leb 1 (length w) h, and-false)
 
   pub word-many : 10 < length w → wordOf w ≡ Other
   unfolding wordOf isNumber
-  word-many h = rw (le-leb 1 (length w) (omega arith), lt-leb (length w) 10 h)
+  word-many h = rw (le-leb 1 (length w) (omega arith), lt-leb (length w) 10 h, and-false)
 
-  pub word-zero : 1 < length w → length w ≤ 10 → getD w 0 0 ≡ 48 → wordOf w ≡ Other
+  pub word-zero : 1 < length w → getD w 0 0 ≡ 48 → wordOf w ≡ Other
   unfolding wordOf isNumber
-  word-zero h k e = rw (le-leb 1 (length w) (omega arith), le-leb (length w) 10 k, lt-ltb 1 (length w) h, eq-eqb (getD w 0 0) 48 e)
+  word-zero h e = rw (lt-ltb 1 (length w) h, eq-eqb (getD w 0 0) 48 e, and-false)
 
   pub word-one : length w ≡ 1 → wordOf w ≡ digitsAfter 0 w
   unfolding wordOf isNumber digitsAfter
-  word-one e = rw (le-leb 1 (length w) (omega arith), le-leb (length w) 10 (omega arith), le-ltb 1 (length w) (omega arith))
+  word-one e = rw (le-leb 1 (length w) (omega arith), le-leb (length w) 10 (omega arith), le-ltb 1 (length w) (omega arith), and-true, and-true)
 
   pub word-digits : 1 < length w → length w ≤ 10 → (getD w 0 0 ≡ 48 → ⊥) → wordOf w ≡ digitsAfter 0 w
   unfolding wordOf isNumber digitsAfter
-  word-digits h k n = rw (le-leb 1 (length w) (omega arith), le-leb (length w) 10 k, lt-ltb 1 (length w) h, ne-eqb (getD w 0 0) 48 n)
+  word-digits h k n = rw (le-leb 1 (length w) (omega arith), le-leb (length w) 10 k, lt-ltb 1 (length w) h, ne-eqb (getD w 0 0) 48 n, and-true, and-true)
 
 -- the number at a position is what the bytes up to the word's end say; past the line's end there is none
 module _ (line : List ℕ) (at end : ℕ) (ends : end ≡ at + length (word (drop at line))) where

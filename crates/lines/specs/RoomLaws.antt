@@ -13,6 +13,7 @@ use lib.ListN.{length, take, drop, getD, set, drop-of-length-le, length-set, len
 use lib.Seq.{drop-cons, paste, paste-zero, set-out, take-suc-set, drop-set-lt, append-snoc, take-all, take-paste, drop-paste}
 use lib.Dec.{ltb}
 use borrow.Author.Tests.{ltb-true, ltb-false, lt-ltb, le-ltb, eq-eqb, ne-eqb}
+use Rattle.lines.specs.Lines.{longest}
 use Rattle.lines.specs.Places.{grown, empty, startsWith, fitting, putAt, Put}
 use Rattle.lines.specs.declared.line.Line.{Line}
 
@@ -86,6 +87,11 @@ put-append (a ∷ s) out at t =
     ∙ sym (put-none out at (a ∷ s ++ t) h))
     (lt-or-le at (length out))
 
+-- what is put says all of the position and of the buffer after it
+pub put-only : {out : List ℕ} {at : ℕ} {text : List ℕ} {end end′ : ℕ} {after after′ : List ℕ} → Put out at text end after → Put out at text end′ after′ → (end ≡ end′) × (after ≡ after′)
+put-only p q = (p .ends ∙ sym (q .ends), p .holds ∙ sym (q .holds))
+
+-- two texts put one after the other are put as one
 pub put-then : {out : List ℕ} {at : ℕ} {s t : List ℕ} {end last : ℕ} {after final : List ℕ} → Put out at s end after → Put after end t last final → Put out at (s ++ t) last final
 put-then {out} {at} {s} {t} {end} p q =
     let room = ap length (p .holds) ∙ length-put out at s in
@@ -200,6 +206,10 @@ line-held room text =
           ∙ drop-paste room 0 text n (omega arith) (omega arith)
           ∙ ap (λ (k : ℕ). drop k room) (sym (len ∙ next));
     }
+
+-- in a room of 24,576 bytes a line is long where it is refused 10
+pub refused-10 : (room text : List ℕ) → length room ≡ longest → grownBy (length room) empty text .long ≡ ltb longest (length text)
+refused-10 room text e = line-held room text .long ∙ ap (λ (n : ℕ). ltb n (length text)) e
 
 -- ---- a line that starts with a text
 

@@ -23,7 +23,7 @@ shared-slice-read-if4 : tie.Need-shared-slice-read-if4
 shared-slice-read-if4 c = search needs
 
 returns-4 : tie.Need-returns-4
-returns-4 c = sym (word-zero (c .before .before .before .before .before .before .args .word .now) (omega arith) (search needs) (c .if4 .taken))
+returns-4 c = sym (word-zero (c .before .before .before .before .before .before .args .word .now) (omega arith) (c .if4 .taken))
 
 digits-requires-2 : tie.Need-digits-requires-2
 digits-requires-2 c κs = search needs
