@@ -5,5 +5,6 @@ pub mod NumberLaws
 pub mod SpellingLaws
 pub mod RoomLaws
 pub mod Counting
+pub mod Taking
 pub mod UnitLaws
 pub mod Examples

@@ -18,13 +18,19 @@ use Rattle.lines.specs.declared.number.Word.the-variants.{Value, Other}
 use Rattle.lines.specs.declared.unit.Unit.{Unit}
 use Rattle.lines.specs.declared.unit.Unit.the-variants.{Stated, Bad as Bad·u}
 use Rattle.lines.specs.declared.line.Line.{Line}
+use Rattle.lines.specs.declared.line.Taken.{Taken}
+use Rattle.lines.specs.declared.line.Taken.the-variants.{Ended, Open}
 
 -- ---- a number at a position
 
--- the word that a text starts with: its bytes before the first space
-unfoldable pub word : List ℕ → List ℕ
-word [] = []
-word (b ∷ text) = cond (eqb b (code " ")) [] (b ∷ word text)
+-- the bytes of a text before the first byte b
+unfoldable pub before : ℕ → List ℕ → List ℕ
+before b [] = []
+before b (x ∷ text) = cond (eqb x b) [] (x ∷ before b text)
+
+-- the word that a text starts with
+abbrev pub word : List ℕ → List ℕ
+word text = before (code " ") text
 
 -- the value of a number n with a word after it, where the word has digits alone and the value is at most 4,294,967,295
 unfoldable pub digitsAfter : ℕ → List ℕ → Word
@@ -103,6 +109,21 @@ empty = record { len = 0; long = false }
 -- a line after one byte more, where a room has `room` bytes
 unfoldable pub grown : ℕ → Line → Line
 grown room line = cond (ltb (line .len) room) (record { len = line .len + 1; long = line .long }) (record { len = line .len; long = true })
+
+-- a line after the bytes of a text, one after another
+unfoldable pub grownBy : ℕ → Line → List ℕ → Line
+grownBy room line [] = line
+grownBy room line (b ∷ text) = grownBy room (grown room line) text
+
+-- a room after the bytes of a text, one after another
+unfoldable pub filledBy : Line → List ℕ → List ℕ → List ℕ
+filledBy line room [] = room
+filledBy line room (b ∷ text) = filledBy (grown (length room) line) (set room (line .len) b) text
+
+-- a line after the bytes of a text up to a line feed, with the position after that, or still open where the text has none
+unfoldable pub takenBy : ℕ → Line → ℕ → List ℕ → Taken
+takenBy room line at [] = Open line
+takenBy room line at (b ∷ text) = cond (eqb b (code "\n")) (Ended line (at + 1)) (takenBy room (grown room line) (at + 1) text)
 
 -- whether a line starts with the bytes of a text
 unfoldable pub startsWith : List ℕ → List ℕ → Bool

@@ -11,11 +11,12 @@ use mathlib.Core.Bool.{Bool, true, false, cond, _||_, or-true, or-false}
 use mathlib.Core.List.{List, [], _∷_, _++_}
 use lib.ListN.{length, take, drop, getD, set, drop-of-length-le, length-set, length-append}
 use lib.Seq.{drop-cons, paste, paste-zero, set-out, take-suc-set, drop-set-lt, append-snoc, take-all, take-paste, drop-paste}
-use lib.Dec.{ltb}
+use lib.Dec.{ltb, eqb}
 use borrow.Author.Tests.{ltb-true, ltb-false, lt-ltb, le-ltb, eq-eqb, ne-eqb}
 use Rattle.lines.specs.Lines.{longest}
-use Rattle.lines.specs.Places.{grown, empty, startsWith, fitting, putAt, Put}
+use Rattle.lines.specs.Places.{before, grown, grownBy, filledBy, takenBy, empty, startsWith, fitting, putAt, Put}
 use Rattle.lines.specs.declared.line.Line.{Line}
+use Rattle.lines.specs.declared.line.Taken.the-variants.{Ended, Open}
 
 pub lt-or-le : (m n : ℕ) → (m < n) ⊎ (n ≤ m)
 lt-or-le m n = go (ltb m n) refl
@@ -105,16 +106,6 @@ put-then {out} {at} {s} {t} {end} p q =
     }
 
 -- ---- a line that grows
-
--- a line after the bytes of a text, one after another, where a room has `room` bytes
-unfoldable pub grownBy : ℕ → Line → List ℕ → Line
-grownBy room line [] = line
-grownBy room line (b ∷ text) = grownBy room (grown room line) text
-
--- a room after the bytes of a text, one after another
-unfoldable pub filledBy : Line → List ℕ → List ℕ → List ℕ
-filledBy line room [] = room
-filledBy line room (b ∷ text) = filledBy (grown (length room) line) (set room (line .len) b) text
 
 -- a byte more: into a room that has room, past one that is full
 grown-within : (room n : ℕ) (long : Bool) → n < room → grown room (record { len = n; long = long }) ≡ record { len = n + 1; long = long }
@@ -210,6 +201,32 @@ line-held room text =
 -- in a room of 24,576 bytes a line is long where it is refused 10
 pub refused-10 : (room text : List ℕ) → length room ≡ longest → grownBy (length room) empty text .long ≡ ltb longest (length text)
 refused-10 room text e = line-held room text .long ∙ ap (λ (n : ℕ). ltb n (length text)) e
+
+-- ---- a line taken from bytes
+
+-- at a position of the bytes: past their end, at a line feed, at another byte
+module _ (size : ℕ) (line : Line) (room bytes : List ℕ) (i : ℕ) where
+  pub taken-open : length bytes ≤ i → (takenBy size line i (drop i bytes) ≡ Open line) × (filledBy line room (before 10 (drop i bytes)) ≡ room)
+  unfolding takenBy before filledBy
+  taken-open h = rw (drop-of-length-le bytes h) (refl, refl)
+
+  pub taken-ended : i < length bytes → getD bytes i 0 ≡ 10 → (takenBy size line i (drop i bytes) ≡ Ended line (i + 1)) × (filledBy line room (before 10 (drop i bytes)) ≡ room)
+  unfolding takenBy before filledBy
+  taken-ended h e = rw (drop-cons bytes i 0 h, eq-eqb (getD bytes i 0) 10 e) (refl, refl)
+
+  pub taken-more : i < length bytes → (getD bytes i 0 ≡ 10 → ⊥) → (takenBy size line i (drop i bytes) ≡ takenBy size (grown size line) (i + 1) (drop (i + 1) bytes)) × (filledBy line room (before 10 (drop i bytes)) ≡ filledBy (grown (length room) line) (set room (line .len) (getD bytes i 0)) (before 10 (drop (i + 1) bytes)))
+  unfolding takenBy before filledBy
+  taken-more h n = rw (drop-cons bytes i 0 h, ne-eqb (getD bytes i 0) 10 n, ap (λ (k : ℕ). drop k bytes) (add-one i)) (refl, refl)
+
+-- a line that ends leaves a later position
+pub taken-further : (room : ℕ) (line : Line) (at : ℕ) (text : List ℕ) {last : Line} {next : ℕ} → takenBy room line at text ≡ Ended last next → at < next
+unfolding takenBy
+taken-further room line at [] e = let z : _≡_ {A = ℕ} 0 1 = cc in absurd (omega arith)
+taken-further room line at (b ∷ text) {last} {next} e = pick (eqb b 10) (taken-further room (grown room line) (at + 1) text) e
+  where
+    pick : (t : Bool) → (takenBy room (grown room line) (at + 1) text ≡ Ended last next → at + 1 < next) → cond t (Ended line (at + 1)) (takenBy room (grown room line) (at + 1) text) ≡ Ended last next → at < next
+    pick true h e = let n : next ≡ at + 1 = cc in omega arith
+    pick false h e = omega (arith, h e)
 
 -- ---- a line that starts with a text
 

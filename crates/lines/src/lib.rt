@@ -10,8 +10,10 @@ mod unit;
 
 pub use line::LONGEST;
 pub use line::Line;
+pub use line::Taken;
 pub use line::add;
 pub use line::starts;
+pub use line::take_line;
 pub use number::Number;
 pub use number::Numbers;
 pub use number::number_at;
