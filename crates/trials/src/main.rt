@@ -8,11 +8,12 @@ mod request;
 use libc::STDIN_FILENO;
 use libc::STDOUT_FILENO;
 use lines::Line;
+use lines::Taken;
 
 // More bytes than an answer has: with fewer left the output is written.
 const ANSWER: usize = 256;
 
-// What goes from byte to byte: the line so far, how many bytes of the output wait to be written, and
+// What goes from read to read: the line so far, how many bytes of the output wait to be written, and
 // whether all writes went well.
 struct State {
     line: Line,
@@ -55,42 +56,42 @@ fn answer_all(input: &mut [u8], room: &mut [u8], output: &mut [u8]) {
     }
 }
 
-// Takes in the bytes that one read gave, up to a failed write.
+// Answers the lines that end in the bytes of one read, up to a failed write.
 fn take(start: State, bytes: &[u8], room: &mut [u8], output: &mut [u8]) -> State {
     let mut state = start;
-    let mut i = 0;
-    while i < bytes.len() {
-        state = take_byte(state, bytes[i], room, output);
+    let mut at = 0;
+    while at < bytes.len() {
+        let taken = lines::take_line(bytes, at, state.line, room);
+        match taken {
+            Taken::Ended(line, next) => {
+                state = end_line(line, state.waiting, room, output);
+                at = next;
+            }
+            Taken::Open(line) => {
+                return State {
+                    line,
+                    waiting: state.waiting,
+                    sound: true,
+                };
+            }
+        }
         if !state.sound {
             return state;
         }
-        i += 1;
     }
     state
 }
 
-fn take_byte(state: State, byte: u8, room: &mut [u8], output: &mut [u8]) -> State {
-    if byte == b'\n' {
-        return end_line(state, room, output);
-    }
-    let line = lines::add(state.line, room, byte);
-    State {
-        line,
-        waiting: state.waiting,
-        sound: state.sound,
-    }
-}
-
-// Answers the line and starts the next, and writes what waits where little room is left.
-fn end_line(state: State, room: &[u8], output: &mut [u8]) -> State {
-    let waiting = request::answer_line(state.line, room, output, state.waiting);
+// Answers a line and starts the next, and writes what waits where little room is left.
+fn end_line(line: Line, waiting: usize, room: &[u8], output: &mut [u8]) -> State {
+    let waiting = request::answer_line(line, room, output, waiting);
     let next = State {
         line: Line {
             len: 0,
             long: false,
         },
         waiting,
-        sound: state.sound,
+        sound: true,
     };
     if waiting < output.len() && output.len() - waiting >= ANSWER {
         return next;
@@ -115,6 +116,6 @@ fn write_out(state: State, output: &[u8]) -> State {
 fn finish(state: State, room: &[u8], output: &mut [u8]) {
     let line = state.line;
     if line.len > 0 {
-        write_out(end_line(state, room, output), output);
+        write_out(end_line(line, state.waiting, room, output), output);
     }
 }

@@ -6,9 +6,6 @@ use lib.ListN.{length}
 use Rattle.lines.specs.Taking.{Taking, taking-begin, taking-open, taking-ended, taking-more}
 use Rattle.lines.proofs.line.take_line.Statement.{statement}
 use Rattle.lines.proofs.line.take_line.Tie as tie
-use Rattle.lines.proofs.line.take_line.Reads as reads
-use Rattle.lines.proofs.line.take_line.Lts as lts
-use Rattle.lines.proofs.line.add.Reads as add-reads
 
 abbrev Inv-loop : tie.InvT-loop
 Inv-loop bytes at room₀ line₀ i₀ room line i = Taking bytes at room₀ line₀ room line i
@@ -16,24 +13,19 @@ Inv-loop bytes at room₀ line₀ i₀ room line i = Taking bytes at room₀ lin
 abbrev μ-loop : tie.MeasureT-loop
 μ-loop bytes at room₀ line₀ i₀ room line i = length bytes - i
 
--- src/line.rt:47:5
 loop-holds : tie.Need-loop-holds Inv-loop μ-loop
 loop-holds c =
     taking-begin (c .before .before .args .bytes .now) (c .before .before .args .at) (c .before .before .args .room .now) (c .before .before .args .start)
 
--- src/line.rt:48:20
 shared-slice-read-byte : tie.Need-shared-slice-read-byte Inv-loop μ-loop
 shared-slice-read-byte c = search needs
 
--- src/line.rt:50:39
 add-t12 : tie.Need-add-t12 Inv-loop μ-loop
 add-t12 c = search needs
 
--- src/line.rt:50:13
 same-length : tie.Need-same-length Inv-loop μ-loop
 same-length c = search needs
 
--- src/line.rt:50:13
 returns : tie.Need-returns Inv-loop μ-loop
 returns c =
     let bytes = c .before .before .before .before .before .before .args .bytes .now in
@@ -43,19 +35,15 @@ returns c =
     let here = c .before .before .before .loop in
     taking-ended bytes at lent start (here .room) (here .line) (here .i) (here .inv) (search needs) (c .if1 .taken)
 
--- src/line.rt:52:9
 add-requires : tie.Need-add-requires Inv-loop μ-loop
 add-requires c κs = search needs
 
--- src/line.rt:53:9
 add-i : tie.Need-add-i Inv-loop μ-loop
 add-i c = search needs
 
--- src/line.rt:47:5
 loop-less : tie.Need-loop-less Inv-loop μ-loop
 loop-less c = search needs
 
--- src/line.rt:47:5
 loop-again : tie.Need-loop-again Inv-loop μ-loop
 loop-again c =
     let bytes = c .before .before .before .before .before .before .before .before .before .before .args .bytes .now in
@@ -66,11 +54,9 @@ loop-again c =
     rw (c .before .before .add .ensures .0, c .before .before .add .ensures .1)
     (taking-more bytes at lent start (here .room) (here .line) (here .i) (here .inv) (search needs) (c .before .before .before .before .if1 .left))
 
--- src/line.rt:41:1
 same-length-2 : tie.Need-same-length-2 Inv-loop μ-loop
 same-length-2 c = search needs
 
--- src/line.rt:41:1
 returns-2 : tie.Need-returns-2 Inv-loop μ-loop
 returns-2 c =
     let bytes = c .before .before .before .before .args .bytes .now in
