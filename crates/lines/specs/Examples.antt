@@ -1,0 +1,59 @@
+-- Worked examples of specs/Lines.antt, each by computation: the page's own input and output, and both sides of each rule.
+-- Assumes nothing.
+use mathlib.Core.Path.{_≡_, refl}
+use mathlib.Core.Bool.{true, false}
+use mathlib.Core.List.{List, [], _∷_, map}
+use Rattle.lines.specs.Lines.{bytes, outputOf, replies, lineSaid, cut, valueAfter, isNumber, unit, notOfThisForm, form, linesOf, spelling, coded, refused, replyLine}
+
+-- numbers, and what is none
+numbers : map isNumber (bytes "0" ∷ bytes "7" ∷ bytes "10" ∷ bytes "4294967295" ∷ []) ≡ true ∷ true ∷ true ∷ true ∷ []
+unfolding isNumber valueAfter
+numbers = refl
+
+no-numbers : map isNumber (bytes "" ∷ bytes "00" ∷ bytes "01" ∷ bytes "4294967296" ∷ bytes "10000000000" ∷ bytes "-1" ∷ bytes "1x" ∷ []) ≡ false ∷ false ∷ false ∷ false ∷ false ∷ false ∷ false ∷ []
+unfolding isNumber valueAfter
+no-numbers = refl
+
+-- the page's first line, a line with no coordinates, and lines not of this form
+page-line : form (bytes "F 0 0 0 0 960 32 960 32 0") ≡ unit 70 0 (0 ∷ 0 ∷ 0 ∷ 960 ∷ 32 ∷ 960 ∷ 32 ∷ 0 ∷ [])
+unfolding form cut isNumber valueAfter
+page-line = refl
+
+no-coordinates : form (bytes "B 12") ≡ unit 66 12 []
+unfolding form cut isNumber valueAfter
+no-coordinates = refl
+
+other-lines : map form (bytes "" ∷ bytes "B" ∷ bytes "B " ∷ bytes "B 1 " ∷ bytes "B  1" ∷ bytes "b 1" ∷ bytes "BF 1" ∷ bytes " B 1" ∷ []) ≡ notOfThisForm ∷ notOfThisForm ∷ notOfThisForm ∷ notOfThisForm ∷ notOfThisForm ∷ notOfThisForm ∷ notOfThisForm ∷ notOfThisForm ∷ []
+unfolding form cut isNumber valueAfter
+other-lines = refl
+
+-- the lines of an input
+no-lines : linesOf (bytes "") ≡ []
+unfolding linesOf cut
+no-lines = refl
+
+ended-lines : linesOf (bytes "a\n\nb\n") ≡ bytes "a" ∷ [] ∷ bytes "b" ∷ []
+unfolding linesOf cut
+ended-lines = refl
+
+open-line : linesOf (bytes "\nab") ≡ [] ∷ bytes "ab" ∷ []
+unfolding linesOf cut
+open-line = refl
+
+-- the page's output
+page-code : replyLine 1 (coded (bytes "00000000001UY1120000")) ≡ bytes "1 00000000001UY1120000\n"
+unfolding replyLine spelling
+page-code = refl
+
+page-refusal : replyLine 2 (refused 8 0) ≡ bytes "2 refused 8 0\n"
+unfolding replyLine spelling
+page-refusal = refl
+
+long-number : replyLine 4294967296 (refused 12 1023) ≡ bytes "4294967296 refused 12 1023\n"
+unfolding replyLine spelling
+long-number = refl
+
+-- a whole output, where every unit is refused 3 at the place of its own number
+whole-output : outputOf (λ kind number coordinates. refused 3 number) (bytes "F 0\n\nB 7") ≡ bytes "1 refused 3 0\n2 refused 9 0\n3 refused 3 7\n"
+unfolding outputOf replies lineSaid linesOf cut form isNumber valueAfter replyLine spelling
+whole-output = refl

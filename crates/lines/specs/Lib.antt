@@ -1,0 +1,10 @@
+-- What the contracts of `lines` cite: the page's definitions, what they mean at a position or in a room, and the laws of both.
+pub mod Lines
+pub mod Places
+pub mod NumberLaws
+pub mod SpellingLaws
+pub mod RoomLaws
+pub mod Counting
+pub mod Taking
+pub mod UnitLaws
+pub mod Examples

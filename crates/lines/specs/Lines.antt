@@ -1,0 +1,140 @@
+-- Document 01, "The listing program", sentence by sentence: what a number, a line and a reply are. A text is the list of its bytes.
+-- Assumes nothing.
+use Prim.Native.Nat.{ℕ, zero, suc, _+_, _-_, _*_, _/_, _%_}
+use Prim.Native.String.{String, [] as []ˢ, _∷_ as _∷ˢ_}
+use Prim.Native.Char.{Char, code}
+use mathlib.Core.Bool.{Bool, true, false, cond, not, _&&_, _||_}
+use mathlib.Core.List.{List, [], _∷_, _++_, map}
+use lib.ListN.{length, getD}
+use lib.Dec.{leb, ltb, eqb}
+
+-- a quoted text as its bytes
+abbrev pub bytes : String → List ℕ
+bytes []ˢ = []
+bytes (c ∷ˢ s) = code c ∷ bytes s
+
+-- ---- lists and texts
+
+-- every element of a list passes a test
+abbrev pub every : {A : Type 0} → (A → Bool) → List A → Bool
+every p [] = true
+every p (x ∷ xs) = p x && every p xs
+
+-- pieces whose first is longer by a byte in front
+abbrev pub longer : ℕ → List (List ℕ) → List (List ℕ)
+longer x [] = (x ∷ []) ∷ []
+longer x (p ∷ ps) = (x ∷ p) ∷ ps
+
+-- the pieces of a text between the bytes b: one more than there are of them
+unfoldable pub cut : ℕ → List ℕ → List (List ℕ)
+cut b [] = [] ∷ []
+cut b (x ∷ text) = cond (eqb x b) ([] ∷ cut b text) (longer x (cut b text))
+
+-- ---- "Numbers are decimal, 1 to 10 digits, at most 4,294,967,295, no leading zero but in `0`."
+
+-- a decimal digit, `0` to `9`
+abbrev pub isDigit : ℕ → Bool
+isDigit b = leb (code "0") b && leb b (code "9")
+
+-- the value of a number n with decimal digits after it
+unfoldable pub valueAfter : ℕ → List ℕ → ℕ
+valueAfter n [] = n
+valueAfter n (d ∷ digits) = valueAfter (10 * n + (d - code "0")) digits
+
+-- the value of decimal digits
+abbrev pub value : List ℕ → ℕ
+value word = valueAfter 0 word
+
+-- a leading zero but in `0`
+abbrev pub zeroLeads : List ℕ → Bool
+zeroLeads word = ltb 1 (length word) && eqb (getD word 0 0) (code "0")
+
+-- decimal, 1 to 10 digits, at most 4,294,967,295, no leading zero but in `0`
+unfoldable pub isNumber : List ℕ → Bool
+isNumber word = every isDigit word && (leb 1 (length word) && leb (length word) 10) && leb (value word) 4294967295 && not (zeroLeads word)
+
+-- ---- "Standard input, a unit a line: `B` or `F` (building, other), a space, the number, then coordinates, each after one space."
+
+-- what stands in a line: a unit, its kind by the letter, or a line not of this form
+pub data Form : Type 0 where
+  unit : (kind number : ℕ) (coordinates : List ℕ) → Form
+  notOfThisForm : Form
+
+-- `B` or `F` (building, other)
+abbrev pub isKind : List ℕ → Bool
+isKind [] = false
+isKind (b ∷ []) = eqb b (code "B") || eqb b (code "F")
+isKind (b ∷ x ∷ text) = false
+
+-- the form of words: a kind, a number, and any count of coordinates
+abbrev pub formOf : List (List ℕ) → Form
+formOf [] = notOfThisForm
+formOf (kind ∷ []) = notOfThisForm
+formOf (kind ∷ number ∷ coordinates) = cond (isKind kind && (isNumber number && every isNumber coordinates)) (unit (getD kind 0 0) (value number) (map value coordinates)) notOfThisForm
+
+-- the form of a line, whose words have one space between them
+unfoldable pub form : List ℕ → Form
+form line = formOf (cut (code " ") line)
+
+-- ---- "A last line needs no line feed, and none starts after a line feed that ends the input." "Empty input gives no output."
+
+-- pieces without the last, where that is empty
+abbrev pub withoutEmptyLast : List (List ℕ) → List (List ℕ)
+withoutEmptyLast [] = []
+withoutEmptyLast ([] ∷ []) = []
+withoutEmptyLast ((b ∷ line) ∷ []) = (b ∷ line) ∷ []
+withoutEmptyLast (line ∷ next ∷ lines) = line ∷ withoutEmptyLast (next ∷ lines)
+
+-- the lines of an input
+unfoldable pub linesOf : List ℕ → List (List ℕ)
+linesOf input = withoutEmptyLast (cut (code "\n") input)
+
+-- ---- "Output per line: line number from 1, a space, then the code or `refused`, number and place, each after one space, and a line feed."
+
+-- the decimal spelling of n in `count` digits at most
+unfoldable pub spelling : ℕ → ℕ → List ℕ
+spelling zero n = []
+spelling (suc count) n = cond (ltb n 10) ((code "0" + n) ∷ []) (spelling count (n / 10) ++ ((code "0" + n % 10) ∷ []))
+
+-- the decimal spelling of a number, of which a machine's have 20 digits at most
+abbrev pub decimal : ℕ → List ℕ
+decimal n = spelling 20 n
+
+-- what is said of a line
+pub data Said : Type 0 where
+  coded : (text : List ℕ) → Said
+  refused : (number place : ℕ) → Said
+
+-- the code, or `refused`, number and place, each after one space
+abbrev pub saying : Said → List ℕ
+saying (coded text) = text
+saying (refused number place) = bytes "refused " ++ decimal number ++ bytes " " ++ decimal place
+
+-- the reply to the line with a number
+unfoldable pub replyLine : ℕ → Said → List ℕ
+replyLine number said = decimal number ++ bytes " " ++ saying said ++ bytes "\n"
+
+-- ---- "Refused 10: more than 24,576 bytes before the line feed or the end of input. Refused 9: any other line not of this form,
+-- ---- empty ones too. Both have place 0 and come before 1 to 8."
+
+-- the most bytes of a line that is not refused 10
+abbrev pub longest : ℕ
+longest = 24576
+
+-- what is said of a form, where `coding` says it of a unit's kind, number and coordinates
+abbrev pub formSaid : (ℕ → ℕ → List ℕ → Said) → Form → Said
+formSaid coding (unit kind number coordinates) = coding kind number coordinates
+formSaid coding notOfThisForm = refused 9 0
+
+-- what is said of a line
+unfoldable pub lineSaid : (ℕ → ℕ → List ℕ → Said) → List ℕ → Said
+lineSaid coding line = cond (ltb longest (length line)) (refused 10 0) (formSaid coding (form line))
+
+-- the replies to lines whose first has a number
+unfoldable pub replies : (ℕ → ℕ → List ℕ → Said) → ℕ → List (List ℕ) → List ℕ
+replies coding number [] = []
+replies coding number (line ∷ lines) = replyLine number (lineSaid coding line) ++ replies coding (number + 1) lines
+
+-- the output for an input: lines are numbered from 1
+unfoldable pub outputOf : (ℕ → ℕ → List ℕ → Said) → List ℕ → List ℕ
+outputOf coding input = replies coding 1 (linesOf input)

@@ -1,0 +1,26 @@
+// The listing's lines: a line that grows byte by byte, the numbers and the unit in it, and the reply
+// that is put into an output buffer.
+//
+// No function here reads or writes anything but what it is lent, none has a `requires`, and each
+// contract is an equation to a definition of specs/.
+mod line;
+mod number;
+mod output;
+mod unit;
+
+pub use line::LONGEST;
+pub use line::Line;
+pub use line::Taken;
+pub use line::add;
+pub use line::starts;
+pub use line::take_line;
+pub use number::Number;
+pub use number::Numbers;
+pub use number::number_at;
+pub use number::numbers_at;
+pub use output::put;
+pub use output::put_code;
+pub use output::put_decimal;
+pub use output::put_refused;
+pub use unit::Unit;
+pub use unit::unit_of;

@@ -1,0 +1,67 @@
+// Texts and numbers put into an output buffer.
+ghost use Prim.Native.Nat.{_-_, min};
+ghost use mathlib.Core.Path.{_≡_};
+ghost use Rattle.lines.specs.Lines.{decimal, coded, refused, saying, replyLine};
+ghost use Rattle.lines.specs.Places.{Put};
+
+// Puts as much of a text as fits into a buffer from a position on, and says the position after it.
+pub fn put(out: &mut [u8], at: usize, text: &[u8]) -> usize
+    ensures { λ r. ⌜ Put (now (out .entry)) at (now (text .entry)) r (now (out .exit)) ⌝ }
+{
+    let n = fitting(text.len(), out.len(), at);
+    let mut i = 0;
+    while i < n {
+        out[at + i] = text[i];
+        i += 1;
+    }
+    at + n
+}
+
+// The same for the decimal spelling of a number.
+pub fn put_decimal(out: &mut [u8], at: usize, n: u64) -> usize
+    ensures { λ r. ⌜ Put (now (out .entry)) at (decimal n) r (now (out .exit)) ⌝ }
+{
+    let mut text = [0u8; 20];
+    let count = io::decimal(n, &mut text);
+    put(out, at, &text[..count])
+}
+
+// The reply to a line that has a code: the line's number, a space, the code and a line feed.
+pub fn put_code(out: &mut [u8], at: usize, line: u64, code: &[u8]) -> usize
+    ensures { λ r. ⌜ Put (now (out .entry)) at (replyLine line (coded (now (code .entry)))) r (now (out .exit)) ⌝ }
+{
+    let end = put_decimal(out, at, line);
+    let end = put(out, end, b" ");
+    let end = put(out, end, code);
+    put(out, end, b"\n")
+}
+
+// The reply to a line that is refused: the line's number, a space, `refused`, the refusal's number
+// and its place, each after one space, and a line feed.
+pub fn put_refused(out: &mut [u8], at: usize, line: u64, number: u32, place: u32) -> usize
+    ensures { λ r. ⌜ Put (now (out .entry)) at (replyLine line (refused number place)) r (now (out .exit)) ⌝ }
+{
+    let end = put_decimal(out, at, line);
+    let end = put(out, end, b" ");
+    let end = put_refusal(out, end, number, place);
+    put(out, end, b"\n")
+}
+
+fn put_refusal(out: &mut [u8], at: usize, number: u32, place: u32) -> usize
+    ensures { λ r. ⌜ Put (now (out .entry)) at (saying (refused number place)) r (now (out .exit)) ⌝ }
+{
+    let end = put(out, at, b"refused ");
+    let end = put_decimal(out, end, number as u64);
+    let end = put(out, end, b" ");
+    put_decimal(out, end, place as u64)
+}
+
+// How many of `count` elements fit into `room` from a position on.
+fn fitting(count: usize, room: usize, at: usize) -> usize
+    ensures { λ r. ⌜ r ≡ min count (room - at) ⌝ }
+{
+    if room <= at {
+        return 0;
+    }
+    if count < room - at { count } else { room - at }
+}

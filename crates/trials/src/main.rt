@@ -1,0 +1,121 @@
+// Lets the code's functions be tried from outside: a request a line on standard input, an answer a
+// line on standard output. A line that is no request is answered by `?`.
+//
+//     write ROOM LAT LON SCALE E W S N NUMBER     answers NUMBER PLACE and the room's bytes
+//     read TEXT                                   answers NUMBER PLACE, the fields and the sides
+mod request;
+
+use libc::STDIN_FILENO;
+use libc::STDOUT_FILENO;
+use lines::Line;
+use lines::Taken;
+
+// More bytes than an answer has: with fewer left the output is written.
+const ANSWER: usize = 256;
+
+// What goes from read to read: the line so far, how many bytes of the output wait to be written, and
+// whether all writes went well.
+struct State {
+    line: Line,
+    waiting: usize,
+    sound: bool,
+}
+
+fn main() {
+    let mut input = io::large_buffer();
+    let mut output = io::large_buffer();
+    let mut room = [0u8; lines::LONGEST];
+    answer_all(&mut input, &mut room, &mut output);
+}
+
+// Reads until the input ends. Nothing says that it does, so the reads count down, from a number that
+// no run uses up. What waits is written before each read.
+fn answer_all(input: &mut [u8], room: &mut [u8], output: &mut [u8]) {
+    let mut state = State {
+        line: Line {
+            len: 0,
+            long: false,
+        },
+        waiting: 0,
+        sound: true,
+    };
+    let mut reads = u64::MAX;
+    while reads > 0 {
+        state = write_out(state, output);
+        if !state.sound {
+            return;
+        }
+        let got = libc::read(STDIN_FILENO, input);
+        let n = io::count(got, input);
+        if n == 0 {
+            finish(state, room, output);
+            return;
+        }
+        state = take(state, &input[..n], room, output);
+        reads -= 1;
+    }
+}
+
+// Answers the lines that end in the bytes of one read, up to a failed write.
+fn take(start: State, bytes: &[u8], room: &mut [u8], output: &mut [u8]) -> State {
+    let mut state = start;
+    let mut at = 0;
+    while at < bytes.len() {
+        let taken = lines::take_line(bytes, at, state.line, room);
+        match taken {
+            Taken::Ended(line, next) => {
+                state = end_line(line, state.waiting, room, output);
+                at = next;
+            }
+            Taken::Open(line) => {
+                return State {
+                    line,
+                    waiting: state.waiting,
+                    sound: true,
+                };
+            }
+        }
+        if !state.sound {
+            return state;
+        }
+    }
+    state
+}
+
+// Answers a line and starts the next, and writes what waits where little room is left.
+fn end_line(line: Line, waiting: usize, room: &[u8], output: &mut [u8]) -> State {
+    let waiting = request::answer_line(line, room, output, waiting);
+    let next = State {
+        line: Line {
+            len: 0,
+            long: false,
+        },
+        waiting,
+        sound: true,
+    };
+    if waiting < output.len() && output.len() - waiting >= ANSWER {
+        return next;
+    }
+    write_out(next, output)
+}
+
+// Writes what waits.
+fn write_out(state: State, output: &[u8]) -> State {
+    let waiting = state.waiting;
+    let line = state.line;
+    let sound = waiting <= output.len() && io::write_all(STDOUT_FILENO, &output[0..waiting]);
+    State {
+        line,
+        waiting: 0,
+        sound,
+    }
+}
+
+// Answers a last line that has no line feed, and writes what waits. No line starts after a line feed
+// that ends the input.
+fn finish(state: State, room: &[u8], output: &mut [u8]) {
+    let line = state.line;
+    if line.len > 0 {
+        write_out(end_line(line, state.waiting, room, output), output);
+    }
+}

@@ -1,0 +1,123 @@
+// A request's answer, put into the output at a position. Each function says the position after it.
+use code::Fields;
+use code::Reading;
+use ground::Lat;
+use ground::Lon;
+use ground::Point;
+use ground::Rectangle;
+use lines::Line;
+use lines::Numbers;
+
+// The answer to a line, and a line feed.
+pub(crate) fn answer_line(line: Line, room: &[u8], out: &mut [u8], at: usize) -> usize {
+    let len = line.len;
+    if line.long {
+        return lines::put(out, at, b"?\n");
+    }
+    if room.len() < len {
+        return lines::put(out, at, b"?\n");
+    }
+    let end = answer(&room[0..len], out, at);
+    lines::put(out, end, b"\n")
+}
+
+fn answer(text: &[u8], out: &mut [u8], at: usize) -> usize {
+    if lines::starts(text, b"write ") {
+        return answer_write(text, out, at);
+    }
+    if lines::starts(text, b"read ") {
+        return answer_read(text, out, at);
+    }
+    lines::put(out, at, b"?")
+}
+
+// `write ROOM LAT LON SCALE E W S N NUMBER`: the room has that many bytes `.`, 64 at most.
+fn answer_write(text: &[u8], out: &mut [u8], at: usize) -> usize {
+    let mut numbers = [0u32; 9];
+    let found = lines::numbers_at(text, 5, &mut numbers);
+    let Numbers::Count(count) = found else {
+        return lines::put(out, at, b"?");
+    };
+    if count != 9 {
+        return lines::put(out, at, b"?");
+    }
+    let size = wide(numbers[0]);
+    if size > 64 {
+        return lines::put(out, at, b"?");
+    }
+    let mut room = [b'.'; 64];
+    let fields = Fields {
+        reference: Point {
+            lat: Lat(numbers[1]),
+            lon: Lon(numbers[2]),
+        },
+        scale: numbers[3],
+        east: numbers[4],
+        west: numbers[5],
+        south: numbers[6],
+        north: numbers[7],
+        number: numbers[8],
+    };
+    write_into(&mut room[0..size], fields, out, at)
+}
+
+// Writes a code into the room. The place is always 0.
+fn write_into(room: &mut [u8], fields: Fields, out: &mut [u8], at: usize) -> usize {
+    let answer = code::write(room, fields);
+    let end = lines::put_decimal(out, at, code::written_number(answer) as u64);
+    let end = lines::put(out, end, b" 0 ");
+    lines::put(out, end, room)
+}
+
+fn wide(n: u32) -> usize {
+    n as usize
+}
+
+// `read TEXT`: reads the rest of the line.
+fn answer_read(text: &[u8], out: &mut [u8], at: usize) -> usize {
+    if text.len() < 5 {
+        return at;
+    }
+    let answer = code::read(&text[5..]);
+    let end = lines::put_decimal(out, at, code::reading_number(answer) as u64);
+    let end = put_after_space(out, end, code::reading_place(answer));
+    if let Reading::Accepted(fields, sides) = answer {
+        put_fields(fields, sides, out, end)
+    } else {
+        put_all(&[0; 12], out, end)
+    }
+}
+
+// The fields and the sides that a reading gives, each after one space.
+fn put_fields(fields: Fields, sides: Rectangle, out: &mut [u8], at: usize) -> usize {
+    let numbers = [
+        fields.reference.lat.0,
+        fields.reference.lon.0,
+        fields.scale,
+        fields.east,
+        fields.west,
+        fields.south,
+        fields.north,
+        fields.number,
+        sides.west.0,
+        sides.east.0,
+        sides.south.0,
+        sides.north.0,
+    ];
+    put_all(&numbers, out, at)
+}
+
+fn put_all(numbers: &[u32], out: &mut [u8], at: usize) -> usize {
+    let mut end = at;
+    let mut i = 0;
+    while i < numbers.len() {
+        end = put_after_space(out, end, numbers[i]);
+        i += 1;
+    }
+    end
+}
+
+fn put_after_space(out: &mut [u8], at: usize, n: u32) -> usize {
+    let end = lines::put(out, at, b" ");
+    lines::put_decimal(out, end, n as u64)
+}
