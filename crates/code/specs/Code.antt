@@ -175,13 +175,13 @@ tellsNothing s = record {
   rectangle = record { west = record { 0 = 0 }; east = record { 0 = 0 }; south = record { 0 = 0 }; north = record { 0 = 0 } };
 }
 
--- What a text tells by a table of checks
-abbrev pub readingOf : List Check → List ℕ → Told
-readingOf checks text = cond (eqb (run checks .number) 0) (tellsOf (fieldsIn text)) (tellsNothing (run checks))
+-- What a text tells where its checks say this
+abbrev pub readingOf : Said → List ℕ → Told
+readingOf said text = cond (eqb (said .number) 0) (tellsOf (fieldsIn text)) (tellsNothing said)
 
 -- Reading, from a text to what it tells
 unfoldable pub reading : List ℕ → Told
-reading text = readingOf (readChecks text) text
+reading text = readingOf (run (readChecks text)) text
 
 -- The number, the place, the fields and the sides of each answer of reading
 abbrev pub tells : Reading → Told

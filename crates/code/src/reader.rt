@@ -1,6 +1,7 @@
 // Reading a code: its fields and its rectangle.
 ghost use mathlib.Core.Path.{_≡_};
 ghost use Prim.Native.Nat.{_+_, _-_, _*_, _^_, _≤_, min};
+ghost use Rattle.replies.specs.Replies.{run};
 ghost use Rattle.ground.specs.Levels.{sizeOf};
 ghost use Rattle.code.specs.Location.{degreesIn};
 ghost use Rattle.code.specs.Code.{past59, shortSpan, rectangleOf, fieldsFrom, tells, readingOf, letterChecks, reading};
@@ -92,7 +93,7 @@ fn fields(text: &[u8], lat: u32, lon: u32) -> Fields
 // Reads a text of twenty letters: its bits and values are refused (13 to 18), or told.
 fn read_letters(text: &[u8]) -> Reading
     requires { ⌜ TwentyLetters (now text) ⌝ }
-    ensures { λ r. ⌜ tells r ≡ readingOf (letterChecks (now (text .entry))) (now (text .entry)) ⌝ }
+    ensures { λ r. ⌜ tells r ≡ readingOf (run (letterChecks (now (text .entry)))) (now (text .entry)) ⌝ }
 {
     let location = letters::number(&text[0..11]);
     if location % 2 == 0 {

@@ -1,11 +1,13 @@
 -- Tests of checks taken apart: what an accepted table says of its rows, and a row of its alternatives. Assumes nothing.
-use Prim.Native.Nat.{ℕ, _<_}
+use Prim.Native.Nat.{ℕ, suc, _<_}
 use native.Mathlib.Omega.{arith}
-use mathlib.Core.Path.{_≡_, refl, ap₂}
+use mathlib.Core.Path.{_≡_, refl, ap, ap₂}
 use mathlib.Core.Bool.{Bool, true, false, cond, _||_, _&&_, true≢false}
 use mathlib.Core.List.{List, [], _∷_}
 use lib.Dec.{T, ltb, ltb→lt}
-use Rattle.replies.specs.Replies.{Said, refused, Check, run}
+use lib.ListN.{length, getD, drop}
+use lib.Seq.{drop-cons}
+use Rattle.replies.specs.Replies.{Said, refused, Check, check, run}
 
 -- Where no alternative holds, neither does
 pub neither : (a b : Bool) → (a || b) ≡ false → (a ≡ false) × (b ≡ false)
@@ -15,6 +17,13 @@ neither false b e = (refl, e)
 -- and where neither does, no alternative holds
 pub none-of : {a b : Bool} → a ≡ false → b ≡ false → (a || b) ≡ false
 none-of {a} {b} p q = ap₂ _||_ p q
+
+-- Where one alternative does, an alternative holds
+pub either-left : {a : Bool} (b : Bool) → a ≡ true → (a || b) ≡ true
+either-left b p = ap (λ (t : Bool). t || b) p
+
+pub either-right : {a b : Bool} → a ≡ false → b ≡ true → (a || b) ≡ true
+either-right {a} {b} p q = ap₂ _||_ p q
 
 -- No row of a table refuses
 abbrev pub Passed : List Check → Type 0
@@ -41,3 +50,16 @@ passed (c ∷ cs) t e =
         → (b ≡ false) × Passed cs
     at true h k ih = let none : ⊥ = omega arith in absurd none
     at false h k ih = (refl, ih k)
+
+-- The row of a table at a place
+abbrev pub row : List Check → ℕ → Check
+row cs k = getD cs k (check 0 false)
+
+-- A row that does not refuse is passed over
+pub skip : (cs : List Check) (k : ℕ) → k < length cs → row cs k .refuses ≡ false → run (drop k cs) ≡ run (drop (suc k) cs)
+skip cs k h e = rw (drop-cons cs k (check 0 false) h, e)
+
+-- A row that refuses is what is said
+pub stop : (cs : List Check) (k : ℕ) → k < length cs → row cs k .refuses ≡ true
+    → run (drop k cs) ≡ refused (row cs k .number) (row cs k .place)
+stop cs k h e = rw (drop-cons cs k (check 0 false) h, e)

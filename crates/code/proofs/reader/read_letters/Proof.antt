@@ -1,14 +1,18 @@
 -- `code::reader::read_letters` meets its contract: each answer is the first check that refuses, or the fields. Assumes nothing.
 use Prim.Native.Nat.{ℕ, _/_, _%_, _≤_}
 use mathlib.Core.Path.{_≡_, ap, ap₂, sym, _∙_, subst}
-use mathlib.Core.Bool.{false, _||_}
+use mathlib.Core.Bool.{_||_}
 use mathlib.Core.List.{List}
-use lib.Dec.{eqb, ltb}
+use lib.Dec.{eqb, ltb, lit<}
+use lib.ListN.{drop}
 use borrow.Author.Tests.{eq-eqb, ne-eqb, ltb-false}
-use Rattle.replies.specs.Tests.{neither}
+use Rattle.replies.specs.Tests.{neither, none-of, either-left, either-right, row, skip, stop}
+use Rattle.replies.specs.Replies.{Said, run}
+use Rattle.ground.specs.declared.Rectangle.{Rectangle}
 use Rattle.code.specs.declared.Fields.{Fields}
+use Rattle.code.specs.declared.Reading.the-variants.{Accepted}
 use Rattle.code.specs.Location.{formers, latters, hemisphereIn, degreesIn}
-use Rattle.code.specs.Code.{locationIn, latIn, lonIn, fieldsFrom, fieldsIn, past59, outside, shortSpan, letterChecks}
+use Rattle.code.specs.Code.{locationIn, latIn, lonIn, fieldsFrom, fieldsIn, past59, outside, shortSpan, letterChecks, readingOf, tellsOf, tells}
 use Rattle.code.specs.Inner.{Readable}
 use Rattle.code.specs.Reading.{location-low, readable}
 use borrow.Author.Needs.{needs}
@@ -31,38 +35,15 @@ lat c = c .before .lat-in .ensures ∙ ap (λ (n : ℕ). formers 27 (n / 2)) (lo
 lon : (c : tie.After-lon-in) → c .lon-in .result ≡ lonIn (text-of (number-at c))
 lon c = c .lon-in .ensures ∙ ap (λ (n : ℕ). latters 27 (n / 2)) (location (number-at c))
 
--- what each check says, as the code has it
-said-13 : (c : tie.Else1) → eqb (locationIn (text-of (c .before)) % 2) 0 ≡ false
-said-13 c = ap (λ (n : ℕ). eqb (n % 2) 0) (sym (location (c .before))) ∙ ne-eqb _ _ (c .if1 .left)
-
-said-14 : (c : tie.After-either-less)
-    → (ltb 0 (hemisphereIn (latIn (text-of (number-at (c .before))))) || ltb 0 (hemisphereIn (lonIn (text-of (number-at (c .before))))))
-    ≡ c .either-less .result
-said-14 c =
-    ap₂ (λ (a b : ℕ). ltb 0 (hemisphereIn a) || ltb 0 (hemisphereIn b)) (sym (lat (c .before))) (sym (lon (c .before)))
-    ∙ sym (c .either-less .ensures)
-
-abbrev lon-at : tie.Else2 → tie.After-lon-in
-lon-at c = c .before .before
-
-said-15 : (c : tie.After-either-less2)
-    → (ltb 89 (degreesIn (latIn (text-of (number-at (lon-at (c .before)))))) || ltb 179 (degreesIn (lonIn (text-of (number-at (lon-at (c .before)))))))
-    ≡ c .either-less2 .result
-said-15 c =
-    ap₂ (λ (a b : ℕ). ltb 89 (degreesIn a) || ltb 179 (degreesIn b)) (sym (lat (lon-at (c .before)))) (sym (lon (lon-at (c .before))))
-    ∙ sym (c .either-less2 .ensures)
+-- where the bits are told, from each later place
+abbrev lon-at2 : tie.Else2 → tie.After-lon-in
+lon-at2 c = c .before .before
 
 abbrev lon-at3 : tie.Else3 → tie.After-lon-in
-lon-at3 c = lon-at (c .before .before)
-
-said-16-lat : (c : tie.After-past-59) → past59 (latIn (text-of (number-at (lon-at3 (c .before))))) ≡ c .past-59 .result
-said-16-lat c = ap past59 (sym (lat (lon-at3 (c .before)))) ∙ sym (c .past-59 .ensures)
+lon-at3 c = lon-at2 (c .before .before)
 
 abbrev lon-at4 : tie.Else4 → tie.After-lon-in
 lon-at4 c = lon-at3 (c .before .before)
-
-said-16-lon : (c : tie.After-past-592) → past59 (lonIn (text-of (number-at (lon-at4 (c .before))))) ≡ c .past-592 .result
-said-16-lon c = ap past59 (sym (lon (lon-at4 (c .before)))) ∙ sym (c .past-592 .ensures)
 
 abbrev lon-at5 : tie.Else5 → tie.After-lon-in
 lon-at5 c = lon-at4 (c .before .before)
@@ -72,18 +53,84 @@ fields c =
     let at = lon-at5 (c .before) in
     c .fields .ensures ∙ ap₂ (fieldsFrom (text-of (number-at at))) (lat at) (lon at)
 
-said-17 : (c : tie.After-outside)
-    → outside 14 27 (fieldsIn (text-of (number-at (lon-at5 (c .before .before)))) .scale) ≡ c .outside .result
-said-17 c = ap (λ (f : Fields). outside 14 27 (f .scale)) (sym (fields (c .before))) ∙ sym (c .outside .ensures)
-
-said-18 : (c : tie.After-short-span)
-    → shortSpan (fieldsIn (text-of (number-at (lon-at5 (c .before .before .before .before))))) ≡ c .short-span .result
-said-18 c = ap shortSpan (sym (fields (c .before .before .before))) ∙ sym (c .short-span .ensures)
-
 degrees : (c : tie.Else3) → (degreesIn ((lon-at3 c) .before .lat-in .result) ≤ 89) × (degreesIn ((lon-at3 c) .lon-in .result) ≤ 179)
 degrees c =
     let h = neither _ _ (sym (c .before .either-less2 .ensures) ∙ c .if3 .left) in
     (ltb-false 89 _ (h .0), ltb-false 179 _ (h .1))
+
+-- what each row of the table says, as the code has it
+closing : (c : tie.After-number) → row (letterChecks (text-of c)) 0 .refuses ≡ eqb (c .number .result % 2) 0
+unfolding letterChecks
+closing c = ap (λ (n : ℕ). eqb (n % 2) 0) (sym (location c))
+
+hemisphere : (c : tie.After-either-less) → row (letterChecks (text-of (number-at (c .before)))) 1 .refuses ≡ c .either-less .result
+unfolding letterChecks
+hemisphere c =
+    ap₂ (λ (a b : ℕ). ltb 0 (hemisphereIn a) || ltb 0 (hemisphereIn b)) (sym (lat (c .before))) (sym (lon (c .before)))
+    ∙ sym (c .either-less .ensures)
+
+past-degrees : (c : tie.After-either-less2)
+    → row (letterChecks (text-of (number-at (lon-at2 (c .before))))) 2 .refuses ≡ c .either-less2 .result
+unfolding letterChecks
+past-degrees c =
+    let at = lon-at2 (c .before) in
+    ap₂ (λ (a b : ℕ). ltb 89 (degreesIn a) || ltb 179 (degreesIn b)) (sym (lat at)) (sym (lon at)) ∙ sym (c .either-less2 .ensures)
+
+past-59-lat : (c : tie.After-past-59) → past59 (latIn (text-of (number-at (lon-at3 (c .before))))) ≡ c .past-59 .result
+past-59-lat c = ap past59 (sym (lat (lon-at3 (c .before)))) ∙ sym (c .past-59 .ensures)
+
+past-59-lon : (c : tie.After-past-592) → past59 (lonIn (text-of (number-at (lon-at4 (c .before))))) ≡ c .past-592 .result
+past-59-lon c = ap past59 (sym (lon (lon-at4 (c .before)))) ∙ sym (c .past-592 .ensures)
+
+scale : (c : tie.After-outside) → row (letterChecks (text-of (number-at (lon-at5 (c .before .before))))) 4 .refuses ≡ c .outside .result
+unfolding letterChecks
+scale c = ap (λ (f : Fields). outside 14 27 (f .scale)) (sym (fields (c .before))) ∙ sym (c .outside .ensures)
+
+spans : (c : tie.After-short-span)
+    → row (letterChecks (text-of (number-at (lon-at5 (c .before .before .before .before))))) 5 .refuses ≡ c .short-span .result
+unfolding letterChecks
+spans c = ap shortSpan (sym (fields (c .before .before .before))) ∙ sym (c .short-span .ensures)
+
+-- what is left of the table where its rows are passed
+abbrev Left : ℕ → List ℕ → Type 0
+Left k text = run (letterChecks text) ≡ run (drop k (letterChecks text))
+
+left-1 : (c : tie.Else1) → Left 1 (text-of (c .before))
+unfolding letterChecks
+left-1 c = skip (letterChecks (text-of (c .before))) 0 (lit< tt) (closing (c .before) ∙ ne-eqb _ _ (c .if1 .left))
+
+left-2 : (c : tie.Else2) → Left 2 (text-of (number-at (lon-at2 c)))
+unfolding letterChecks
+left-2 c =
+    left-1 (lon-at2 c .before .before)
+    ∙ skip (letterChecks (text-of (number-at (lon-at2 c)))) 1 (lit< tt) (hemisphere (c .before) ∙ c .if2 .left)
+
+left-3 : (c : tie.Else3) → Left 3 (text-of (number-at (lon-at3 c)))
+unfolding letterChecks
+left-3 c =
+    left-2 (c .before .before)
+    ∙ skip (letterChecks (text-of (number-at (lon-at3 c)))) 2 (lit< tt) (past-degrees (c .before) ∙ c .if3 .left)
+
+left-4 : (c : tie.Else5) → Left 4 (text-of (number-at (lon-at5 c)))
+unfolding letterChecks
+left-4 c =
+    let c4 = c .before .before in
+    left-3 (c4 .before .before)
+    ∙ skip (letterChecks (text-of (number-at (lon-at5 c)))) 3 (lit< tt)
+    (none-of (past-59-lat (c4 .before) ∙ c4 .if4 .left) (past-59-lon (c .before) ∙ c .if5 .left))
+
+left-5 : (c : tie.Else6) → Left 5 (text-of (number-at (lon-at5 (c .before .before .before))))
+unfolding letterChecks
+left-5 c =
+    left-4 (c .before .before .before)
+    ∙ skip (letterChecks (text-of (number-at (lon-at5 (c .before .before .before))))) 4 (lit< tt) (scale (c .before) ∙ c .if6 .left)
+
+left-6 : (c : tie.Else7) → Left 6 (text-of (number-at (lon-at5 (c .before .before .before .before .before))))
+unfolding letterChecks
+left-6 c =
+    left-5 (c .before .before)
+    ∙ skip (letterChecks (text-of (number-at (lon-at5 (c .before .before .before .before .before))))) 5 (lit< tt)
+    (spans (c .before) ∙ c .if7 .left)
 
 sub-number : tie.Need-sub-number
 sub-number c = search needs
@@ -99,7 +146,9 @@ number-requires c κs = search needs
 
 returns : tie.Need-returns
 unfolding letterChecks
-returns c = rw (ap (λ (n : ℕ). eqb (n % 2) 0) (sym (location (c .before))) ∙ eq-eqb _ _ (c .if1 .taken))
+returns c =
+    let t = text-of (c .before) in
+    sym (ap (λ (s : Said). readingOf s t) (stop (letterChecks t) 0 (lit< tt) (closing (c .before) ∙ eq-eqb _ _ (c .if1 .taken))))
 
 lat-in-requires : tie.Need-lat-in-requires
 lat-in-requires c κs = search needs
@@ -112,7 +161,9 @@ either-less-requires c κs = search needs
 
 returns-2 : tie.Need-returns-2
 unfolding letterChecks
-returns-2 c = rw (said-13 (c .before .before .before .before), said-14 (c .before) ∙ c .if2 .taken)
+returns-2 c =
+    let t = text-of (number-at (c .before .before)) in
+    sym (ap (λ (s : Said). readingOf s t) (left-1 (c .before .before .before .before) ∙ stop (letterChecks t) 1 (lit< tt) (hemisphere (c .before) ∙ c .if2 .taken)))
 
 either-less-requires-2 : tie.Need-either-less-requires-2
 either-less-requires-2 c κs = search needs
@@ -120,8 +171,8 @@ either-less-requires-2 c κs = search needs
 returns-3 : tie.Need-returns-3
 unfolding letterChecks
 returns-3 c =
-    let c2 = c .before .before in
-    rw (said-13 (c2 .before .before .before .before), said-14 (c2 .before) ∙ c2 .if2 .left, said-15 (c .before) ∙ c .if3 .taken)
+    let t = text-of (number-at (lon-at2 (c .before .before))) in
+    sym (ap (λ (s : Said). readingOf s t) (left-2 (c .before .before) ∙ stop (letterChecks t) 2 (lit< tt) (past-degrees (c .before) ∙ c .if3 .taken)))
 
 past-59-requires : tie.Need-past-59-requires
 past-59-requires c κs = search needs
@@ -129,14 +180,8 @@ past-59-requires c κs = search needs
 returns-4 : tie.Need-returns-4
 unfolding letterChecks
 returns-4 c =
-    let c3 = c .before .before in
-    let c2 = c3 .before .before in
-    rw (
-      said-13 (c2 .before .before .before .before),
-      said-14 (c2 .before) ∙ c2 .if2 .left,
-      said-15 (c3 .before) ∙ c3 .if3 .left,
-      said-16-lat (c .before) ∙ c .if4 .taken,
-    )
+    let t = text-of (number-at (lon-at3 (c .before .before))) in
+    sym (ap (λ (s : Said). readingOf s t) (left-3 (c .before .before) ∙ stop (letterChecks t) 3 (lit< tt) (either-left (past59 (lonIn t)) (past-59-lat (c .before) ∙ c .if4 .taken))))
 
 past-59-requires-2 : tie.Need-past-59-requires-2
 past-59-requires-2 c κs = search needs
@@ -144,16 +189,8 @@ past-59-requires-2 c κs = search needs
 returns-5 : tie.Need-returns-5
 unfolding letterChecks
 returns-5 c =
-    let c4 = c .before .before in
-    let c3 = c4 .before .before in
-    let c2 = c3 .before .before in
-    rw (
-      said-13 (c2 .before .before .before .before),
-      said-14 (c2 .before) ∙ c2 .if2 .left,
-      said-15 (c3 .before) ∙ c3 .if3 .left,
-      said-16-lat (c4 .before) ∙ c4 .if4 .left,
-      said-16-lon (c .before) ∙ c .if5 .taken,
-    )
+    let t = text-of (number-at (lon-at4 (c .before .before))) in
+    sym (ap (λ (s : Said). readingOf s t) (left-3 (c .before .before .before .before) ∙ stop (letterChecks t) 3 (lit< tt) (either-right (past-59-lat (c .before .before .before) ∙ c .before .before .if4 .left) (past-59-lon (c .before) ∙ c .if5 .taken))))
 
 fields-requires : tie.Need-fields-requires
 fields-requires c κs = (number-at (lon-at5 c) .before .before .before .pre, degrees (c .before .before .before .before))
@@ -164,18 +201,8 @@ outside-requires c κs = search needs
 returns-6 : tie.Need-returns-6
 unfolding letterChecks
 returns-6 c =
-    let c5 = c .before .before .before in
-    let c4 = c5 .before .before in
-    let c3 = c4 .before .before in
-    let c2 = c3 .before .before in
-    rw (
-      said-13 (c2 .before .before .before .before),
-      said-14 (c2 .before) ∙ c2 .if2 .left,
-      said-15 (c3 .before) ∙ c3 .if3 .left,
-      said-16-lat (c4 .before) ∙ c4 .if4 .left,
-      said-16-lon (c5 .before) ∙ c5 .if5 .left,
-      said-17 (c .before) ∙ c .if6 .taken,
-    )
+    let t = text-of (number-at (lon-at5 (c .before .before .before))) in
+    sym (ap (λ (s : Said). readingOf s t) (left-4 (c .before .before .before) ∙ stop (letterChecks t) 4 (lit< tt) (scale (c .before) ∙ c .if6 .taken)))
 
 short-span-requires : tie.Need-short-span-requires
 short-span-requires c κs = search needs
@@ -183,20 +210,8 @@ short-span-requires c κs = search needs
 returns-7 : tie.Need-returns-7
 unfolding letterChecks
 returns-7 c =
-    let c6 = c .before .before in
-    let c5 = c6 .before .before .before in
-    let c4 = c5 .before .before in
-    let c3 = c4 .before .before in
-    let c2 = c3 .before .before in
-    rw (
-      said-13 (c2 .before .before .before .before),
-      said-14 (c2 .before) ∙ c2 .if2 .left,
-      said-15 (c3 .before) ∙ c3 .if3 .left,
-      said-16-lat (c4 .before) ∙ c4 .if4 .left,
-      said-16-lon (c5 .before) ∙ c5 .if5 .left,
-      said-17 (c6 .before) ∙ c6 .if6 .left,
-      said-18 (c .before) ∙ c .if7 .taken,
-    )
+    let t = text-of (number-at (lon-at5 (c .before .before .before .before .before))) in
+    sym (ap (λ (s : Said). readingOf s t) (left-5 (c .before .before) ∙ stop (letterChecks t) 5 (lit< tt) (spans (c .before) ∙ c .if7 .taken)))
 
 rectangle-requires : tie.Need-rectangle-requires
 rectangle-requires c κs =
@@ -214,22 +229,10 @@ returns-8 : tie.Need-returns-8
 unfolding letterChecks
 returns-8 c =
     let c7 = c .before in
-    let c6 = c7 .before .before in
-    let c5 = c6 .before .before .before in
-    let c4 = c5 .before .before in
-    let c3 = c4 .before .before in
-    let c2 = c3 .before .before in
-    rw (
-      c .rectangle .ensures,
-      fields (c6 .before .before),
-      said-13 (c2 .before .before .before .before),
-      said-14 (c2 .before) ∙ c2 .if2 .left,
-      said-15 (c3 .before) ∙ c3 .if3 .left,
-      said-16-lat (c4 .before) ∙ c4 .if4 .left,
-      said-16-lon (c5 .before) ∙ c5 .if5 .left,
-      said-17 (c6 .before) ∙ c6 .if6 .left,
-      said-18 (c7 .before) ∙ c7 .if7 .left,
-    )
+    let t = text-of (number-at (lon-at5 (c7 .before .before .before .before .before))) in
+    ap (λ (r : Rectangle). tells (Accepted (c7 .before .before .before .before .fields .result) r)) (c .rectangle .ensures)
+    ∙ ap tellsOf (fields (c7 .before .before .before .before))
+    ∙ sym (ap (λ (s : Said). readingOf s t) (left-6 c7))
 
 pub read-letters-spec : {M : Type 1} → statement M
 read-letters-spec =
