@@ -21,6 +21,12 @@ pair-at t = and 0 pair-kinds.ps (is 0 pair-kinds.ps μ-pair t) pair.Pre
 abbrev pair-below : ℕ → In 0 pair-kinds.ps
 pair-below t = and 0 pair-kinds.ps (falls 0 pair-kinds.ps _<_ μ-pair t) pair.Pre
 
+-- what the shorter call gives is small enough to be doubled twice
+below : (t : ℕ) (c : pair-lts.After-pair (pair-below t, pair.Post) (pair-at t) pair.Post) → c .pair .result < 2 ^ 54
+below t c =
+    let a = c .before .before .args in
+    subst (λ (k : ℕ). k < 2 ^ 54) (sym (c .pair .ensures)) (paired-below (a .n - 1) (a .a / 2) (a .b / 2) (search needs))
+
 pair-returns : (t : ℕ) → pair-lts.Need-returns (pair-below t, pair.Post) (pair-at t) pair.Post
 pair-returns t c = let a = c .before .args in sym (paired-none (a .n) (a .a) (a .b) (c .if1 .taken))
 
@@ -33,10 +39,7 @@ pair-pair-requires t c κs = search needs
 
 pair-mul-result :
     (t : ℕ) → pair-lts.Need-mul-result (pair-below t, pair.Post) (pair-at t) pair.Post
-pair-mul-result t c =
-    let a = c .before .before .args in
-    let below : c .pair .result < 2 ^ 54 = subst (λ (k : ℕ). k < 2 ^ 54) (sym (c .pair .ensures)) (paired-below (a .n - 1) (a .a / 2) (a .b / 2) (search needs)) in
-    omega arith
+pair-mul-result t c = omega (arith, below t c)
 
 pair-mul-result-2 :
     (t : ℕ) → pair-lts.Need-mul-result-2 (pair-below t, pair.Post) (pair-at t) pair.Post
@@ -52,10 +55,7 @@ pair-cast-result t c = search needs
 
 pair-add-result-2 :
     (t : ℕ) → pair-lts.Need-add-result-2 (pair-below t, pair.Post) (pair-at t) pair.Post
-pair-add-result-2 t c =
-    let a = c .before .before .args in
-    let below : c .pair .result < 2 ^ 54 = subst (λ (k : ℕ). k < 2 ^ 54) (sym (c .pair .ensures)) (paired-below (a .n - 1) (a .a / 2) (a .b / 2) (search needs)) in
-    omega arith
+pair-add-result-2 t c = omega (arith, below t c)
 
 pair-returns-2 : (t : ℕ) → pair-lts.Need-returns-2 (pair-below t, pair.Post) (pair-at t) pair.Post
 pair-returns-2 t c =

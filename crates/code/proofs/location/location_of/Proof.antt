@@ -16,17 +16,16 @@ bits-of-requires-2 c κs = search needs
 pair-requires : tie.Need-pair-requires
 pair-requires c κs = search needs
 
+-- 54 bits
+below : (c : tie.After-pair) → c .pair .result < 2 ^ 54
+below c =
+    subst (λ (k : ℕ). k < 2 ^ 54) (sym (c .pair .ensures)) (paired-below 27 (c .before .before .bits-of .result) (c .before .bits-of2 .result) (omega arith))
+
 mul-result : tie.Need-mul-result
-mul-result c =
-    let below : c .pair .result < 2 ^ 54 =
-    subst (λ (k : ℕ). k < 2 ^ 54) (sym (c .pair .ensures)) (paired-below 27 (c .before .before .bits-of .result) (c .before .bits-of2 .result) (omega arith)) in
-    omega arith
+mul-result c = omega (arith, below c)
 
 add-result : tie.Need-add-result
-add-result c =
-    let below : c .pair .result < 2 ^ 54 =
-    subst (λ (k : ℕ). k < 2 ^ 54) (sym (c .pair .ensures)) (paired-below 27 (c .before .before .bits-of .result) (c .before .bits-of2 .result) (omega arith)) in
-    omega arith
+add-result c = omega (arith, below c)
 
 returns : tie.Need-returns
 unfolding locationOf
