@@ -6,11 +6,9 @@ use mathlib.Core.List.{List, [], _∷_, _++_, map}
 use lib.Dec.{eqb, leb, ltb}
 use lib.ListN.{length, take, drop, getD}
 use Rattle.replies.specs.Replies.{Said, refused, accepted, Check, check, check-at, run, Outcome, outcome}
-use Rattle.ground.specs.declared.Lat.{Lat}
-use Rattle.ground.specs.declared.Lon.{Lon}
 use Rattle.ground.specs.declared.Point.{Point}
 use Rattle.ground.specs.declared.Rectangle.{Rectangle}
-use Rattle.ground.specs.Levels.{latEnd, lonEnd, sizeOf}
+use Rattle.ground.specs.Levels.{lat, lon, latEnd, lonEnd, sizeOf}
 use Rattle.letters.specs.Alphabet.{valueIn, letterIn, firstOther}
 use Rattle.letters.specs.Digits.{digits}
 use Rattle.letters.specs.Letters.{letters, numberIn}
@@ -43,10 +41,10 @@ codeOf f = map (letterIn letters) (valuesOf f)
 -- Reading back: the rectangle runs from the reference by W-1, E-1, S-1 and N-1 cells of size s, and stops at 0, at 90° and at 180°
 unfoldable pub rectangleOf : Fields → Rectangle
 rectangleOf f = record {
-  west = record { 0 = f .reference .lon .0 - (f .west - 1) * sizeOf (f .scale) };
-  east = record { 0 = min (f .reference .lon .0 + (f .east - 1) * sizeOf (f .scale)) lonEnd };
-  south = record { 0 = f .reference .lat .0 - (f .south - 1) * sizeOf (f .scale) };
-  north = record { 0 = min (f .reference .lat .0 + (f .north - 1) * sizeOf (f .scale)) latEnd };
+  west = lon (f .reference .lon .0 - (f .west - 1) * sizeOf (f .scale));
+  east = lon (min (f .reference .lon .0 + (f .east - 1) * sizeOf (f .scale)) lonEnd);
+  south = lat (f .reference .lat .0 - (f .south - 1) * sizeOf (f .scale));
+  north = lat (min (f .reference .lat .0 + (f .north - 1) * sizeOf (f .scale)) latEnd);
 }
 
 -- Whether a number is outside a range, ends included
@@ -110,8 +108,8 @@ valueAt text k = valueIn letters (getD text k 0)
 
 -- The fields that a text and the bits of its two directions tell
 unfoldable pub fieldsFrom : List ℕ → ℕ → ℕ → Fields
-fieldsFrom text lat lon = record {
-  reference = record { lat = record { 0 = angleIn lat }; lon = record { 0 = angleIn lon } };
+fieldsFrom text latBits lonBits = record {
+  reference = record { lat = lat (angleIn latBits); lon = lon (angleIn lonBits) };
   scale = valueAt text 11;
   east = valueAt text 12;
   west = valueAt text 13;
@@ -164,7 +162,7 @@ abbrev pub tellsNothing : Said → Told
 tellsNothing s = record {
   said = s;
   fields = record {
-    reference = record { lat = record { 0 = 0 }; lon = record { 0 = 0 } };
+    reference = record { lat = lat 0; lon = lon 0 };
     scale = 0;
     east = 0;
     west = 0;
@@ -172,7 +170,7 @@ tellsNothing s = record {
     north = 0;
     number = 0;
   };
-  rectangle = record { west = record { 0 = 0 }; east = record { 0 = 0 }; south = record { 0 = 0 }; north = record { 0 = 0 } };
+  rectangle = record { west = lon 0; east = lon 0; south = lat 0; north = lat 0 };
 }
 
 -- What a text tells where its checks say this

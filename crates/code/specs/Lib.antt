@@ -1,4 +1,5 @@
 pub mod Location
+pub mod Bits
 pub mod Code
 pub mod Inner
 pub mod Writing

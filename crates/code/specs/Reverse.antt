@@ -17,31 +17,8 @@ use Rattle.letters.specs.Digits.{Digits, none, more, digits, digits-are, digits
 use Rattle.letters.specs.Letters.{letters, numberIn, spelledIn}
 use Rattle.letters.specs.Words.{Word, letters-distinct, word-first, first-word, word-back, word-digits, word-take, word-drop, word-values, digits-word, number-spelled}
 use Rattle.code.specs.declared.Fields.{Fields}
-use Rattle.code.specs.Location.{
-  bitsOf,
-  angleIn,
-  degrees,
-  minutes,
-  seconds,
-  degreesIn,
-  minutesIn,
-  secondsIn,
-  sixtyFourthsIn,
-  hemisphereIn,
-  paired,
-  formers,
-  latters,
-  locationOf,
-  paired-below,
-  formers-paired,
-  latters-paired,
-  paired-back,
-  bits-tell,
-  bits-back,
-  angle-back,
-  minutes-most,
-  seconds-most,
-}
+use Rattle.code.specs.Location.{bitsOf, angleIn, degrees, minutes, seconds, degreesIn, minutesIn, secondsIn, sixtyFourthsIn, hemisphereIn, paired, formers, latters, locationOf}
+use Rattle.code.specs.Bits.{paired-below, formers-paired, latters-paired, paired-back, bits-tell, bits-back, angle-back, minutes-most, seconds-most}
 use Rattle.code.specs.Code.{
   valuesOf,
   codeOf,

@@ -4,19 +4,10 @@ use Prim.Native.Nat.{ℕ, _+_, _-_, _*_, _/_, _%_, _≤_, min}
 use mathlib.Core.Path.{_≡_}
 use mathlib.Core.Bool.{cond}
 use lib.Dec.{leb, eqb}
-use Rattle.ground.specs.declared.Lat.{Lat}
-use Rattle.ground.specs.declared.Lon.{Lon}
 use Rattle.ground.specs.declared.Point.{Point}
 use Rattle.ground.specs.declared.Rectangle.{Rectangle}
 use Rattle.ground.specs.declared.Cell.{Cell}
-use Rattle.ground.specs.Levels.{degree, minute, latEnd, lonEnd, sizeOf}
-
--- A latitude and a longitude over the angle in u
-abbrev pub lat : ℕ → Lat
-lat a = record { 0 = a }
-
-abbrev pub lon : ℕ → Lon
-lon a = record { 0 = a }
+use Rattle.ground.specs.Levels.{lat, lon, degree, minute, latEnd, lonEnd, sizeOf}
 
 -- Cells of levels 10 to 15 start afresh at each whole degree, cells of levels 16 and up at each whole minute
 unfoldable pub afresh : ℕ → ℕ

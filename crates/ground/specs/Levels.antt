@@ -4,6 +4,15 @@ use mathlib.Core.Bool.{cond}
 use mathlib.Core.List.{List, [], _∷_}
 use lib.Dec.{ltb}
 use lib.ListN.{getD}
+use Rattle.ground.specs.declared.Lat.{Lat}
+use Rattle.ground.specs.declared.Lon.{Lon}
+
+-- W and J are kept apart: a latitude and a longitude, each over the angle in u
+abbrev pub lat : ℕ → Lat
+lat a = record { 0 = a }
+
+abbrev pub lon : ℕ → Lon
+lon a = record { 0 = a }
 
 -- One second is 2,048 u, one minute 122,880 u, one degree 7,372,800 u
 abbrev pub second : ℕ

@@ -8,7 +8,8 @@ use lib.Dec.{T, ltb}
 use Rattle.ground.specs.declared.Point.{Point}
 use Rattle.ground.specs.declared.Rectangle.{Rectangle}
 use Rattle.ground.specs.declared.Cell.{Cell}
-use Rattle.ground.specs.Cells.{lat, lon, lowSide, highSide, IsCell}
+use Rattle.ground.specs.Levels.{lat, lon}
+use Rattle.ground.specs.Cells.{lowSide, highSide, IsCell}
 use Rattle.boundary.specs.Boundary.{inside}
 use Rattle.unit.specs.declared.Choice.{Choice}
 use Rattle.unit.specs.declared.Choice.the-variants.{At, Nowhere}

@@ -3,7 +3,7 @@ use Prim.Native.Nat.{ℕ, _-_, min, max}
 use mathlib.Core.List.{List, [], _∷_, map}
 use Rattle.ground.specs.declared.Point.{Point}
 use Rattle.ground.specs.declared.Rectangle.{Rectangle}
-use Rattle.ground.specs.Cells.{lat, lon}
+use Rattle.ground.specs.Levels.{lat, lon}
 
 -- Latitude, longitude alternate; a last number without a partner makes no corner
 unfoldable pub cornersOf : List ℕ → List Point

@@ -2,7 +2,7 @@
 use borrow.Author.Needs.{needs}
 use mathlib.Core.Path.{sym, subst}
 use native.Mathlib.Omega.{arith}
-use Rattle.code.specs.Location.{paired-none, paired-more, paired-below}
+use Rattle.code.specs.Bits.{paired-none, paired-more, paired-below}
 use Prim.Native.Nat.{ℕ, _-_, _/_, _^_, _<_}
 use borrow.Fn.Kinds.{In}
 use borrow.Fn.PlainCycle.{Measures, is, falls, and}
