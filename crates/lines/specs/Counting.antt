@@ -2,7 +2,7 @@
 use Prim.Native.Nat.{ℕ, _+_, _≤_, _<_}
 use native.Mathlib.Omega.{arith}
 use mathlib.Core.Path.{_≡_, refl, sym, ap, _∙_}
-use mathlib.Core.List.{List, [], _∷_}
+use mathlib.Core.List.{List, []}
 use lib.ListN.{length, drop, getD, set, length-set}
 use Rattle.lines.specs.Places.{numberAt, countIn, leadingIn, putAt}
 use Rattle.lines.specs.NumberLaws.{plus, found, numbers-end, numbers-other, numbers-bad, numbers-more}

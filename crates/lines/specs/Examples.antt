@@ -2,7 +2,7 @@
 -- Assumes nothing.
 use mathlib.Core.Path.{_≡_, refl}
 use mathlib.Core.Bool.{true, false}
-use mathlib.Core.List.{List, [], _∷_, map}
+use mathlib.Core.List.{[], _∷_, map}
 use Rattle.lines.specs.Lines.{bytes, outputOf, replies, lineSaid, cut, valueAfter, isNumber, unit, notOfThisForm, form, linesOf, spelling, coded, refused, replyLine}
 
 -- numbers, and what is none

@@ -1,22 +1,20 @@
 -- The laws of words and numbers that proofs cite: digits one by one, a word at a position, the numbers of a text one by one.
 -- Assumes nothing.
-use Prim.Native.Nat.{ℕ, zero, suc, _+_, _-_, _*_, _≤_, _<_}
+use Prim.Native.Nat.{ℕ, suc, _+_, _-_, _*_, _≤_, _<_}
 use native.Mathlib.Numerals.{add-one}
 use native.Mathlib.Omega.{arith}
-use mathlib.Core.Path.{_≡_, refl, sym, ap, _∙_}
-use mathlib.Core.Bool.{Bool, true, false, cond, _&&_, and-true, and-false}
+use mathlib.Core.Path.{_≡_, refl, ap, _∙_}
+use mathlib.Core.Bool.{Bool, true, false, cond, and-true, and-false}
 use mathlib.Core.List.{List, [], _∷_}
 use lib.ListN.{length, take, drop, getD, length-take, length-drop, drop-of-length-le}
 use lib.Seq.{drop-cons, drop-drop}
-use lib.Dec.{leb, ltb, eqb, lit<}
+use lib.Dec.{eqb, lit<}
 use borrow.Author.Tests.{le-leb, lt-leb, lt-ltb, le-ltb, eq-eqb, ne-eqb}
-use Rattle.lines.specs.Lines.{cut, longer, every, isDigit, valueAfter, value, isNumber}
+use Rattle.lines.specs.Lines.{cut, longer, every, valueAfter, value, isNumber}
 use Rattle.lines.specs.Places.{before, word, digitsAfter, wordOf, endingAt, numberAt, leading, leadingOf, leadingIn, countOf, countIn}
-use Rattle.lines.specs.declared.number.Number.{Number}
 use Rattle.lines.specs.declared.number.Number.the-variants.{At, Bad}
 use Rattle.lines.specs.declared.number.Numbers.{Numbers}
 use Rattle.lines.specs.declared.number.Numbers.the-variants.{Count, Bad as Bad·s}
-use Rattle.lines.specs.declared.number.Word.{Word}
 use Rattle.lines.specs.declared.number.Word.the-variants.{Value, Other}
 
 -- ---- digits

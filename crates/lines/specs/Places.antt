@@ -1,11 +1,11 @@
 -- What the contracts of `src/` cite beside the page: a word at a position, a line that grows in a room, a text put into a buffer.
 -- Assumes nothing.
-use Prim.Native.Nat.{ℕ, zero, suc, _+_, _-_, min}
+use Prim.Native.Nat.{ℕ, _+_, _-_, min}
 use Prim.Native.Char.{code}
 use mathlib.Core.Path.{_≡_}
 use mathlib.Core.Bool.{Bool, true, false, cond, _&&_}
-use mathlib.Core.List.{List, [], _∷_, _++_, map}
-use lib.ListN.{length, getD, take, drop, set}
+use mathlib.Core.List.{List, [], _∷_}
+use lib.ListN.{length, drop, set}
 use lib.Seq.{paste}
 use lib.Dec.{leb, ltb, eqb}
 use Rattle.lines.specs.Lines.{Form, unit, notOfThisForm, isKind, formOf, every, cut, isNumber, isDigit, value, valueAfter}

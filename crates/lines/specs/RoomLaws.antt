@@ -1,7 +1,7 @@
 -- The laws of lines and rooms that proofs cite: a text put into a buffer element by element, a line that grows byte by byte, a
 -- line compared with a text byte by byte.
 -- Assumes nothing.
-use Prim.Native.Nat.{ℕ, zero, suc, _+_, _-_, _≤_, _<_, min}
+use Prim.Native.Nat.{ℕ, suc, _+_, _-_, _≤_, _<_, min}
 use native.Mathlib.Nat.{zero-min}
 use native.Mathlib.Numerals.{add-one}
 use native.Mathlib.Omega.{arith}
@@ -16,6 +16,7 @@ use borrow.Author.Tests.{ltb-true, ltb-false, lt-ltb, le-ltb, eq-eqb, ne-eqb}
 use Rattle.lines.specs.Lines.{longest}
 use Rattle.lines.specs.Places.{before, grown, grownBy, filledBy, takenBy, empty, startsWith, fitting, putAt, Put}
 use Rattle.lines.specs.declared.line.Line.{Line}
+use Rattle.lines.specs.declared.line.Taken.{Taken}
 use Rattle.lines.specs.declared.line.Taken.the-variants.{Ended, Open}
 
 pub lt-or-le : (m n : ℕ) → (m < n) ⊎ (n ≤ m)
@@ -119,6 +120,20 @@ grown-past room n long h = rw (le-ltb n room h)
 same-line : {m n : ℕ} {k l : Bool} → m ≡ n → k ≡ l → _≡_ {A = Line} (record { len = m; long = k }) (record { len = n; long = l })
 same-line p q = cc
 
+-- the bytes of two reads, one after the other, are those of one
+pub grown-append : (room : ℕ) (line : Line) (s t : List ℕ) → grownBy room line (s ++ t) ≡ grownBy room (grownBy room line s) t
+unfolding grownBy
+grown-append room line [] t = refl
+grown-append room line (b ∷ s) t = grown-append room (grown room line) s t
+
+pub filled-append : (line : Line) (room s t : List ℕ) → filledBy line room (s ++ t) ≡ filledBy (grownBy (length room) line s) (filledBy line room s) t
+unfolding grownBy filledBy
+filled-append line room [] t = refl
+filled-append line room (b ∷ s) t =
+    let next : List ℕ = set room (line .len) b in
+    filled-append (grown (length room) line) next s t
+    ∙ ap (λ (n : ℕ). filledBy (grownBy n (grown (length room) line) s) (filledBy (grown (length room) line) next s) t) (length-set room (line .len) b)
+
 -- bytes after a line of n bytes that the room took
 grown-from : (room n : ℕ) (long : Bool) (text : List ℕ) → n ≤ room → grownBy room (record { len = n; long = long }) text ≡ record { len = min (n + length text) room; long = long || ltb room (n + length text) }
 unfolding grownBy
@@ -217,6 +232,21 @@ module _ (size : ℕ) (line : Line) (room bytes : List ℕ) (i : ℕ) where
   pub taken-more : i < length bytes → (getD bytes i 0 ≡ 10 → ⊥) → (takenBy size line i (drop i bytes) ≡ takenBy size (grown size line) (i + 1) (drop (i + 1) bytes)) × (filledBy line room (before 10 (drop i bytes)) ≡ filledBy (grown (length room) line) (set room (line .len) (getD bytes i 0)) (before 10 (drop (i + 1) bytes)))
   unfolding takenBy before filledBy
   taken-more h n = rw (drop-cons bytes i 0 h, ne-eqb (getD bytes i 0) 10 n, ap (λ (k : ℕ). drop k bytes) (add-one i)) (refl, refl)
+
+-- the line that was taken, ended or open
+abbrev pub lineOf : Taken → Line
+lineOf (Ended line next) = line
+lineOf (Open line) = line
+
+-- it has the bytes before the line feed
+pub taken-line : (room : ℕ) (line : Line) (at : ℕ) (text : List ℕ) → lineOf (takenBy room line at text) ≡ grownBy room line (before 10 text)
+unfolding takenBy grownBy before
+taken-line room line at [] = refl
+taken-line room line at (b ∷ text) = pick (eqb b 10) (taken-line room (grown room line) (at + 1) text)
+  where
+    pick : (t : Bool) → lineOf (takenBy room (grown room line) (at + 1) text) ≡ grownBy room (grown room line) (before 10 text) → lineOf (cond t (Ended line (at + 1)) (takenBy room (grown room line) (at + 1) text)) ≡ grownBy room line (cond t [] (b ∷ before 10 text))
+    pick true h = refl
+    pick false h = h
 
 -- a line that ends leaves a later position
 pub taken-further : (room : ℕ) (line : Line) (at : ℕ) (text : List ℕ) {last : Line} {next : ℕ} → takenBy room line at text ≡ Ended last next → at < next

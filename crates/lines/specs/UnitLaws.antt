@@ -1,19 +1,18 @@
 -- The laws of the unit that a line states, which proofs cite. Assumes nothing.
-use Prim.Native.Nat.{ℕ, suc, _+_}
+use Prim.Native.Nat.{ℕ}
 use native.Mathlib.Omega.{arith}
-use mathlib.Core.Path.{_≡_, refl, sym, ap, _∙_}
-use mathlib.Core.Bool.{Bool, true, false, cond, _&&_, and-false}
-use mathlib.Core.List.{List, [], _∷_, map}
-use lib.ListN.{length, drop, getD, length-map}
+use mathlib.Core.Path.{_≡_, refl, ap}
+use mathlib.Core.Bool.{Bool, true, false, cond, _&&_}
+use mathlib.Core.List.{List, [], _∷_}
+use lib.ListN.{length, drop, length-map}
 use lib.Seq.{drop-drop}
 use lib.Dec.{eqb}
 use borrow.Author.Tests.{eqb-true}
-use Rattle.lines.specs.Lines.{Form, unit, notOfThisForm, isKind, isNumber, value, every, cut, longer, form, formOf}
-use Rattle.lines.specs.Places.{word, numberAt, leading, countOf, countIn, leadingIn, startsWith, unitSaid, coordinatesOf, coordinatesIn, unitAfter, coordinatesAfter}
+use Rattle.lines.specs.Lines.{isKind, isNumber, value, every, cut, form, formOf}
+use Rattle.lines.specs.Places.{word, numberAt, countIn, leadingIn, startsWith, unitSaid, coordinatesOf, coordinatesIn, unitAfter, coordinatesAfter}
 use Rattle.lines.specs.NumberLaws.{after, cut-word, cut-after, found, missed}
 use Rattle.lines.specs.declared.number.Number.the-variants.{At, Bad}
 use Rattle.lines.specs.declared.number.Numbers.the-variants.{Count, Bad as Bad·s}
-use Rattle.lines.specs.declared.unit.Unit.{Unit}
 use Rattle.lines.specs.declared.unit.Unit.the-variants.{Stated, Bad as Bad·u}
 
 -- what a count tells of the words

@@ -99,8 +99,11 @@ fn end_line(line: Line, waiting: usize, room: &[u8], output: &mut [u8]) -> State
     write_out(next, output)
 }
 
-// Writes what waits.
+// Writes what waits. After a failed write it writes nothing.
 fn write_out(state: State, output: &[u8]) -> State {
+    if !state.sound {
+        return state;
+    }
     let waiting = state.waiting;
     let line = state.line;
     let sound = waiting <= output.len() && io::write_all(STDOUT_FILENO, &output[0..waiting]);

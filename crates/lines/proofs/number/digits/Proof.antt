@@ -1,7 +1,6 @@
 -- `lines::number::digits` meets its contract. The loop's invariant: what is left of the word, after the value so far, answers as the whole word does.
 -- Assumes nothing.
 use borrow.Author.Needs.{needs}
-use native.Mathlib.Omega.{arith}
 use Prim.Native.Nat.{_+_, _*_, _≤_, _-_}
 use mathlib.Core.Path.{_≡_, refl, sym, _∙_}
 use lib.ListN.{length, drop, getD}

@@ -3,8 +3,7 @@
 use borrow.Author.Needs.{needs}
 use native.Mathlib.Omega.{arith}
 use Prim.Native.Nat.{_-_}
-use mathlib.Core.Path.{sym, subst, _∙_}
-use mathlib.Core.List.{List}
+use mathlib.Core.Path.{sym, _∙_}
 use lib.ListN.{length}
 use Rattle.lines.specs.Counting.{Counted, counted-begin, counted-end, counted-other, counted-bad, counted-more, counted-further}
 use Rattle.lines.proofs.number.numbers_at.Statement.{statement}

@@ -1,10 +1,7 @@
 -- `lines::output::put_decimal` meets its contract: the fewest digits that `io::decimal` spells are the number's spelling.
 -- Assumes nothing.
-use Prim.Native.Nat.{ℕ, _+_}
 use native.Mathlib.Omega.{arith}
-use mathlib.Core.Path.{ap, _∙_}
-use mathlib.Core.List.{List}
-use Rattle.lines.specs.Places.{fitting, putAt}
+use mathlib.Core.Path.{_∙_}
 use Rattle.lines.specs.SpellingLaws.{few-digits, spelled}
 use borrow.Author.Needs.{needs}
 use Rattle.lines.proofs.output.put_decimal.Statement.{statement}
