@@ -7,10 +7,11 @@ use mathlib.Core.List.{List, [], _∷_, map}
 use lib.Dec.{T, eqb}
 use lib.ListN.{replicate}
 use Rattle.replies.specs.Replies.{Said}
+use Rattle.replies.specs.Texts.{bytes}
 use Rattle.ground.specs.declared.Rectangle.{Rectangle}
 use Rattle.ground.specs.Levels.{sizeOf}
 use Rattle.ground.specs.Cells.{afresh, lowSide, highSide, sidesOf, centreOf, locationCell}
-use Rattle.letters.specs.Letters.{bytes, letters, spelledIn}
+use Rattle.letters.specs.Letters.{letters, spelledIn}
 use Rattle.boundary.specs.Boundary.{edgesOf, left, leftOrOn, misses, crossesEast, inside}
 use Rattle.code.specs.Location.{bitsOf, angleIn, paired, latters, locationOf}
 use Rattle.code.specs.Code.{valuesOf, codeOf, rectangleOf, fieldsFrom, letterChecks, Told, reading}

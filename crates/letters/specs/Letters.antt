@@ -1,20 +1,14 @@
 -- The letters (document 01, "The twenty characters"), and numbers spelled in them. The laws hold of any alphabet. Assumes nothing.
 use Prim.Native.Nat.{ℕ, zero, suc, _+_, _-_, _*_, _/_, _%_, _^_, _≤_, _<_}
-use Prim.Native.String.{String, [] as []ˢ, _∷_ as _∷ˢ_}
-use Prim.Native.Char.{code}
 use native.Mathlib.Numerals.{add-one}
 use native.Mathlib.Omega.{arith}
 use mathlib.Core.Path.{_≡_, refl, ap, ap₂, _∙_, sym, subst}
 use mathlib.Core.List.{List, [], _∷_, _++_, map, map-append, append-nil, append-assoc}
 use lib.ListN.{length, getD, take, drop, set, length-set}
 use lib.Seq.{take-suc, take-all, drop-length, drop-cons, getD-set-same, drop-set-lt}
+use Rattle.replies.specs.Texts.{bytes}
 use Rattle.letters.specs.Alphabet.{valueIn, letterIn}
 use Rattle.letters.specs.Digits.{digits, valueOf, value-snoc}
-
--- The bytes of a text
-abbrev pub bytes : String → List ℕ
-bytes []ˢ = []
-bytes (c ∷ˢ s) = code c ∷ bytes s
 
 -- The thirty-two letters by value, 0 to 31
 abbrev pub letters : List ℕ

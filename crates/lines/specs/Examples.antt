@@ -3,7 +3,8 @@
 use mathlib.Core.Path.{_≡_, refl}
 use mathlib.Core.Bool.{true, false}
 use mathlib.Core.List.{[], _∷_, map}
-use Rattle.lines.specs.Lines.{bytes, outputOf, replies, lineSaid, cut, valueAfter, isNumber, unit, notOfThisForm, form, linesOf, spelling, coded, refused, replyLine}
+use Rattle.replies.specs.Texts.{bytes}
+use Rattle.lines.specs.Lines.{outputOf, replies, lineSaid, cut, valueAfter, isNumber, unit, notOfThisForm, form, linesOf, spelling, coded, refused, replyLine}
 
 -- numbers, and what is none
 numbers : map isNumber (bytes "0" ∷ bytes "7" ∷ bytes "10" ∷ bytes "4294967295" ∷ []) ≡ true ∷ true ∷ true ∷ true ∷ []

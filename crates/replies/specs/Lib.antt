@@ -1,3 +1,4 @@
 pub mod Replies
 pub mod Places
 pub mod Tests
+pub mod Texts
