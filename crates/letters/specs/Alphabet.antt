@@ -9,6 +9,7 @@ use lib.ListN.{length, getD}
 use lib.Arith.{lt-of-le-ne}
 use borrow.Author.Tests.{eq-eqb, eqb-true, lt-ltb, le-ltb}
 use Rattle.replies.specs.Places.{firstPlace, first-most}
+use Rattle.replies.specs.Tests.{both}
 
 -- The value of a byte: its place in the alphabet; the alphabet's length where it is no letter
 abbrev pub valueIn : List ℕ → ℕ → ℕ
@@ -44,24 +45,16 @@ pub a-letter : (alphabet : List ℕ) (b : ℕ) → (valueIn alphabet b ≡ lengt
 a-letter alphabet b n =
     rw (lt-ltb (valueIn alphabet b) (length alphabet) (lt-of-le-ne (value-most alphabet b) n))
 
-both-left : (a b : Bool) → T (a && b) → T a
-both-left true b t = tt
-both-left false b t = t
-
-both-right : (a b : Bool) → T (a && b) → T b
-both-right true b t = t
-both-right false b t = absurd t
-
 -- Each letter's value is found back
 pub found-back : (alphabet : List ℕ) → T (distinct alphabet) → (v : ℕ) → v < length alphabet
     → valueIn alphabet (letterIn alphabet v) ≡ v
 found-back [] t v h = omega arith
 found-back (x ∷ xs) t zero h = rw (eq-eqb x x refl)
 found-back (x ∷ xs) t (suc v) h =
-    at (eqb x (getD xs v 0)) refl (found-back xs (both-right (eqb (valueIn xs x) (length xs)) (distinct xs) t) v (omega arith))
+    at (eqb x (getD xs v 0)) refl (found-back xs (both (eqb (valueIn xs x) (length xs)) (distinct xs) t .1) v (omega arith))
   where
     once : valueIn xs x ≡ length xs
-    once = eqb→eq (valueIn xs x) (length xs) (both-left (eqb (valueIn xs x) (length xs)) (distinct xs) t)
+    once = eqb→eq (valueIn xs x) (length xs) (both (eqb (valueIn xs x) (length xs)) (distinct xs) t .0)
 
     at : (b : Bool) → eqb x (getD xs v 0) ≡ b → valueIn xs (getD xs v 0) ≡ v
         → cond b 0 (suc (valueIn xs (getD xs v 0))) ≡ suc v

@@ -35,7 +35,8 @@ abbrev pub numbered : List Check → Bool
 numbered [] = true
 numbered (c ∷ cs) = ltb 0 (c .number) && numbered cs
 
-both : (a b : Bool) → T (a && b) → T a × T b
+-- Where both tests pass, each does
+pub both : (a b : Bool) → T (a && b) → T a × T b
 both true b t = (tt, t)
 both false b t = absurd t
 
