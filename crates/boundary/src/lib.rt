@@ -1,2 +1,4 @@
-// The boundary of a unit: edges, meeting, odd count, inside. Definitions only so far, in
-// specs/Boundary.antt.
+// The boundary of a unit: sides of a line, meeting, odd count, inside.
+mod side;
+
+pub use side::left;
