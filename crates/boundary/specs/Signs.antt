@@ -53,7 +53,7 @@ apart-at a b = at (ltb a b) refl
 
 pub product-signed : (a b c d : ℕ)
     → a * d + b * c + cond (not (Bool·beq (ltb a b) (ltb c d))) 0 (distance a b * distance c d)
-        ≡ a * c + b * d + cond (not (Bool·beq (ltb a b) (ltb c d))) (distance a b * distance c d) 0
+    ≡ a * c + b * d + cond (not (Bool·beq (ltb a b) (ltb c d))) (distance a b * distance c d) 0
 product-signed a b c d =
     product-at a b c d (distance a b * distance c d) (distance a b) (distance c d) refl (ltb a b) (ltb c d) (apart-at a b) (apart-at c d)
 

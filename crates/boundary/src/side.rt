@@ -16,7 +16,11 @@ pub struct Signed {
 fn apart(a: u32, b: u32) -> u64
     ensures { λ r. ⌜ r ≡ distance a b ⌝ }
 {
-    if a < b { (b - a) as u64 } else { (a - b) as u64 }
+    if a < b {
+        (b - a) as u64
+    } else {
+        (a - b) as u64
+    }
 }
 
 // (b - a) times (d - c), for all numbers: no product of two differences passes 64 bits.

@@ -21,7 +21,7 @@ returns c =
     let across = c .before .product2 in
     c .greater .ensures
     ∙ side-signed (a .a) (a .b) (a .p) (plus (along .result)) (minus (along .result)) (plus (across .result)) (minus (across .result))
-      (along .ensures) (across .ensures)
+    (along .ensures) (across .ensures)
 
 pub left-spec : {M : Type 1} → statement M
 left-spec = tie.close (tie.spec product-requires product-requires-2 greater-requires returns)

@@ -1,0 +1,34 @@
+-- `boundary::edge::ordered_left` meets its contract: the corner furthest right tells for all four. Assumes nothing.
+use mathlib.Core.Path.{ap, ap₂, sym, _∙_}
+use mathlib.Core.Bool.{not}
+use Rattle.ground.specs.declared.Lat.{Lat}
+use Rattle.ground.specs.declared.Lon.{Lon}
+use Rattle.boundary.specs.Boundary.{left}
+use Rattle.boundary.specs.Extreme.{extreme, all-left}
+use Rattle.boundary.specs.Edges.{not-right}
+use borrow.Author.Needs.{needs}
+use Rattle.boundary.proofs.edge.ordered_left.Statement.{statement}
+use Rattle.boundary.proofs.edge.ordered_left.Tie as tie
+
+extreme-lat-requires : tie.Need-extreme-lat-requires
+extreme-lat-requires c κs = search needs
+
+extreme-lon-requires : tie.Need-extreme-lon-requires
+extreme-lon-requires c κs = search needs
+
+left-requires : tie.Need-left-requires
+left-requires c κs = search needs
+
+returns : tie.Need-returns
+returns c =
+    let a = c .before .before .before .args in
+    ap not
+    (c .left .ensures
+    ∙ ap₂ (λ (y : Lat) (x : Lon). left (a .b) (a .a) (record { lat = y; lon = x })) (c .before .before .extreme-lat .ensures)
+    (c .before .extreme-lon .ensures))
+    ∙ sym (not-right (a .a) (a .b) (extreme (a .a) (a .b) (a .r)))
+    ∙ sym (all-left (a .a) (a .b) (a .r) (c .before .before .before .pre))
+
+pub ordered-left-spec : {M : Type 1} → statement M
+ordered-left-spec =
+    tie.close (tie.spec extreme-lat-requires extreme-lon-requires left-requires returns)

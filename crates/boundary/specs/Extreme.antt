@@ -1,0 +1,86 @@
+-- Of a rectangle's corners one is furthest right of a line, and tells for all four on which side they lie. Assumes nothing.
+use Prim.Native.Nat.{ℕ, _+_, _*_, _≤_, _<_}
+use native.Mathlib.Nat.{le-refl, le-of-lt}
+use native.Mathlib.Omega.{arith}
+use mathlib.Core.Path.{_≡_, refl, ap, sym, _∙_}
+use mathlib.Core.Bool.{Bool, true, false, cond, _&&_, and-false}
+use lib.Dec.{leb}
+use borrow.Author.Tests.{leb-true, leb-false, le-leb}
+use Rattle.ground.specs.declared.Lat.{Lat}
+use Rattle.ground.specs.declared.Lon.{Lon}
+use Rattle.ground.specs.declared.Point.{Point}
+use Rattle.ground.specs.declared.Rectangle.{Rectangle}
+use Rattle.boundary.specs.Boundary.{leftSum, rightSum, leftOrOn, allLeft}
+use Rattle.boundary.specs.Products.{product-le}
+
+-- A rectangle whose sides are in order
+pub record Ordered (r : Rectangle) : Type 0 where
+  pub lon : r .west .0 ≤ r .east .0
+  pub lat : r .south .0 ≤ r .north .0
+
+-- A point of it, its sides included
+pub record Holds (r : Rectangle) (p : Point) : Type 0 where
+  pub west : r .west .0 ≤ p .lon .0
+  pub east : p .lon .0 ≤ r .east .0
+  pub south : r .south .0 ≤ p .lat .0
+  pub north : p .lat .0 ≤ r .north .0
+
+-- Going with or left of the line keeps a point left of it
+toward : (a b p q : Point)
+    → a .lon .0 * q .lat .0 + b .lon .0 * p .lat .0 ≤ a .lon .0 * p .lat .0 + b .lon .0 * q .lat .0
+    → b .lat .0 * q .lon .0 + a .lat .0 * p .lon .0 ≤ b .lat .0 * p .lon .0 + a .lat .0 * q .lon .0
+    → leftOrOn a b p ≡ true → leftOrOn a b q ≡ true
+unfolding leftOrOn
+toward a b p q h k e = le-leb (rightSum a b q) (leftSum a b q) (omega (arith, leb-true (rightSum a b p) (leftSum a b p) e))
+
+-- The corner that is furthest right of the line from a to b
+abbrev pub extremeLat : Point → Point → Rectangle → Lat
+extremeLat a b r = cond (leb (a .lon .0) (b .lon .0)) (r .south) (r .north)
+
+abbrev pub extremeLon : Point → Point → Rectangle → Lon
+extremeLon a b r = cond (leb (a .lat .0) (b .lat .0)) (r .east) (r .west)
+
+abbrev pub extreme : Point → Point → Rectangle → Point
+extreme a b r = record { lat = extremeLat a b r; lon = extremeLon a b r }
+
+-- Where it is left of the line or on it, so is every point of the rectangle
+pub held-left : (a b q : Point) (r : Rectangle) → Holds r q → leftOrOn a b (extreme a b r) ≡ true → leftOrOn a b q ≡ true
+held-left a b q r h e =
+    toward a b (extreme a b r) q (by-lat (leb (a .lon .0) (b .lon .0)) refl) (by-lon (leb (a .lat .0) (b .lat .0)) refl) e
+  where
+    by-lat : (t : Bool) → leb (a .lon .0) (b .lon .0) ≡ t
+        → a .lon .0 * q .lat .0 + b .lon .0 * cond t (r .south) (r .north) .0
+        ≤ a .lon .0 * cond t (r .south) (r .north) .0 + b .lon .0 * q .lat .0
+    by-lat true k = product-le (leb-true (a .lon .0) (b .lon .0) k) (h .south)
+    by-lat false k = omega (arith, product-le (le-of-lt (leb-false (a .lon .0) (b .lon .0) k)) (h .north))
+
+    by-lon : (t : Bool) → leb (a .lat .0) (b .lat .0) ≡ t
+        → b .lat .0 * q .lon .0 + a .lat .0 * cond t (r .east) (r .west) .0
+        ≤ b .lat .0 * cond t (r .east) (r .west) .0 + a .lat .0 * q .lon .0
+    by-lon true k = omega (arith, product-le (leb-true (a .lat .0) (b .lat .0) k) (h .east))
+    by-lon false k = omega (arith, product-le (le-of-lt (leb-false (a .lat .0) (b .lat .0) k)) (h .west))
+
+-- So it tells for all four corners
+pub all-left : (a b : Point) (r : Rectangle) → Ordered r → allLeft a b r ≡ leftOrOn a b (extreme a b r)
+all-left a b r o = at (leftOrOn a b (extreme a b r)) refl
+  where
+    corner : (y : Lat) (x : Lon) → Holds r (record { lat = y; lon = x }) → leftOrOn a b (extreme a b r) ≡ true
+        → leftOrOn a b (record { lat = y; lon = x }) ≡ true
+    corner y x = held-left a b (record { lat = y; lon = x }) r
+
+    one : (t u : Bool) → leftOrOn a b (record { lat = cond t (r .south) (r .north); lon = cond u (r .east) (r .west) }) ≡ false
+        → allLeft a b r ≡ false
+    one true true e = rw (e, and-false)
+    one true false e = rw e
+    one false true e = rw (e, and-false)
+    one false false e = rw (e, and-false)
+
+    at : (t : Bool) → leftOrOn a b (extreme a b r) ≡ t → allLeft a b r ≡ t
+    at true e =
+        rw (
+          corner (r .south) (r .west) (record { west = le-refl _; east = o .lon; south = le-refl _; north = o .lat }) e,
+          corner (r .south) (r .east) (record { west = o .lon; east = le-refl _; south = le-refl _; north = o .lat }) e,
+          corner (r .north) (r .west) (record { west = le-refl _; east = o .lon; south = o .lat; north = le-refl _ }) e,
+          corner (r .north) (r .east) (record { west = o .lon; east = le-refl _; south = o .lat; north = le-refl _ }) e,
+        )
+    at false e = one (leb (a .lon .0) (b .lon .0)) (leb (a .lat .0) (b .lat .0)) e

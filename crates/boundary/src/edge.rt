@@ -1,0 +1,157 @@
+// An edge beside a rectangle and beside a point. Comparisons come first, products only where these
+// leave it open.
+ghost use mathlib.Core.Path.{_≡_};
+ghost use mathlib.Core.Bool.{_&&_};
+ghost use lib.Dec.{leb};
+ghost use Rattle.boundary.specs.Boundary.{beyond as Boundary·beyond, allLeft, misses as Boundary·misses, crossesEast};
+ghost use Rattle.boundary.specs.Extreme.{Ordered, extremeLat, extremeLon};
+ghost use Rattle.boundary.specs.Edges.{edge};
+use crate::left;
+use ground::Lat;
+use ground::Lon;
+use ground::Point;
+use ground::Rectangle;
+
+// Whether a is at most b, and c at most d.
+fn both_most(a: u32, b: u32, c: u32, d: u32) -> bool
+    ensures { λ r. ⌜ r ≡ (leb a b && leb c d) ⌝ }
+{
+    a <= b && c <= d
+}
+
+// Whether both ends of an edge are beyond one side of a rectangle.
+fn beyond(a: Point, b: Point, r: Rectangle) -> bool
+    ensures { λ m. ⌜ m ≡ Boundary·beyond (edge a b) r ⌝ }
+{
+    let a_lat = a.lat;
+    let a_lon = a.lon;
+    let b_lat = b.lat;
+    let b_lon = b.lon;
+    let west = r.west;
+    let east = r.east;
+    let south = r.south;
+    let north = r.north;
+    if both_most(a_lon.0, west.0, b_lon.0, west.0) {
+        return true;
+    }
+    if both_most(east.0, a_lon.0, east.0, b_lon.0) {
+        return true;
+    }
+    if both_most(a_lat.0, south.0, b_lat.0, south.0) {
+        return true;
+    }
+    both_most(north.0, a_lat.0, north.0, b_lat.0)
+}
+
+// The latitude of the corner that is furthest right of the line from a to b.
+fn extreme_lat(a: Point, b: Point, r: Rectangle) -> Lat
+    ensures { λ m. ⌜ m ≡ extremeLat a b r ⌝ }
+{
+    let from = a.lon;
+    let to = b.lon;
+    if from.0 <= to.0 {
+        return r.south;
+    }
+    r.north
+}
+
+// Its longitude.
+fn extreme_lon(a: Point, b: Point, r: Rectangle) -> Lon
+    ensures { λ m. ⌜ m ≡ extremeLon a b r ⌝ }
+{
+    let from = a.lat;
+    let to = b.lat;
+    if from.0 <= to.0 {
+        return r.east;
+    }
+    r.west
+}
+
+// Whether the corners of a rectangle whose sides are in order lie all left of the line or on it: the
+// one furthest right tells.
+fn ordered_left(a: Point, b: Point, r: Rectangle) -> bool
+    requires { ⌜ Ordered r ⌝ }
+    ensures { λ m. ⌜ m ≡ allLeft a b r ⌝ }
+{
+    let lat = extreme_lat(a, b, r);
+    let lon = extreme_lon(a, b, r);
+    !left(b, a, Point { lat, lon })
+}
+
+// The same for any rectangle, corner by corner.
+fn each_left(a: Point, b: Point, r: Rectangle) -> bool
+    ensures { λ m. ⌜ m ≡ allLeft a b r ⌝ }
+{
+    let west = r.west;
+    let east = r.east;
+    let south = r.south;
+    let north = r.north;
+    if left(
+        b,
+        a,
+        Point {
+            lat: south,
+            lon: west,
+        },
+    ) {
+        return false;
+    }
+    if left(
+        b,
+        a,
+        Point {
+            lat: south,
+            lon: east,
+        },
+    ) {
+        return false;
+    }
+    if left(
+        b,
+        a,
+        Point {
+            lat: north,
+            lon: west,
+        },
+    ) {
+        return false;
+    }
+    !left(
+        b,
+        a,
+        Point {
+            lat: north,
+            lon: east,
+        },
+    )
+}
+
+// Whether an edge misses the open inside of a rectangle, for all points and rectangles.
+pub fn misses(a: Point, b: Point, r: Rectangle) -> bool
+    ensures { λ m. ⌜ m ≡ Boundary·misses (edge a b) r ⌝ }
+{
+    if beyond(a, b, r) {
+        return true;
+    }
+    let west = r.west;
+    let east = r.east;
+    let south = r.south;
+    let north = r.north;
+    if both_most(west.0, east.0, south.0, north.0) {
+        return ordered_left(a, b, r) || ordered_left(b, a, r);
+    }
+    each_left(a, b, r) || each_left(b, a, r)
+}
+
+// Whether an edge crosses a point's latitude strictly east of the point.
+pub fn crosses_east(p: Point, a: Point, b: Point) -> bool
+    ensures { λ m. ⌜ m ≡ crossesEast p (edge a b) ⌝ }
+{
+    let at = p.lat;
+    let a_lat = a.lat;
+    let b_lat = b.lat;
+    if a_lat.0 <= at.0 {
+        return at.0 < b_lat.0 && left(a, b, p);
+    }
+    b_lat.0 <= at.0 && left(b, a, p)
+}
