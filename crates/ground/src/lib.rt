@@ -1,4 +1,9 @@
 // The ground: angles in u (1/2048 arc second), points, rectangles, cells and their levels.
+mod cells;
+
+pub use cells::Sides;
+pub use cells::centre;
+pub use cells::sides_found;
 ghost use mathlib.Core.Path.{_≡_};
 ghost use Rattle.ground.specs.Levels.{sizeOf};
 

@@ -1,0 +1,95 @@
+-- `ground::cells::sides_found` meets its contract: the first part of the test that fails decides. Assumes nothing.
+use Prim.Native.Nat.{_≤_}
+use native.Mathlib.Omega.{arith}
+use mathlib.Core.Path.{sym, _∙_}
+use borrow.Author.Tests.{le-leb, lt-leb, not-true, not-false}
+use Rattle.ground.specs.Cells.{sidesOf}
+use Rattle.ground.specs.CellTest.{isCell, sidesFound, side-below}
+use borrow.Author.Needs.{needs}
+use Rattle.ground.proofs.cells.sides_found.Statement.{statement}
+use Rattle.ground.proofs.cells.sides_found.Tie as tie
+
+in-range : (c : tie.Else4)
+    → ((9 ≤ c .before .before .before .before .before .before .before .before .args .c .level) × (c .before .before .before .before .before .before .before .before .args .c .level ≤ 27) × (c .before .before .before .before .before .before .before .before .args .c .west .0 ≤ 1327104000))
+    × ((9 ≤ c .before .before .before .before .before .before .before .before .args .c .level) × (c .before .before .before .before .before .before .before .before .args .c .level ≤ 27) × (c .before .before .before .before .before .before .before .before .args .c .south .0 ≤ 1327104000))
+in-range c =
+    let c3 = c .before .before in
+    let c2 = c3 .before .before in
+    let a = c2 .before .before .before .before .args .c in
+    let low = c2 .before .if1 .left in
+    let high = c2 .if2 .left in
+    let west = side-below (a .level) (a .west .0) 1327104000 low high (sym (c3 .before .is-side .ensures) ∙ not-false _ (c3 .if3 .left)) in
+    let south = side-below (a .level) (a .south .0) 663552000 low high (sym (c .before .is-side2 .ensures) ∙ not-false _ (c .if4 .left)) in
+    ((low, high, omega arith), (low, high, omega arith))
+
+returns : tie.Need-returns
+unfolding sidesFound isCell
+returns c = rw (lt-leb 9 (c .before .before .before .args .c .level) (c .if1 .taken))
+
+returns-2 : tie.Need-returns-2
+unfolding sidesFound isCell
+returns-2 c =
+    let level = c .before .before .before .before .args .c .level in
+    rw (le-leb 9 level (c .before .if1 .left), lt-leb level 27 (c .if2 .taken))
+
+is-side-requires : tie.Need-is-side-requires
+is-side-requires c κs = search needs
+
+returns-3 : tie.Need-returns-3
+unfolding sidesFound isCell
+returns-3 c =
+    let c2 = c .before .before in
+    let level = c2 .before .before .before .before .args .c .level in
+    rw (le-leb 9 level (c2 .before .if1 .left), le-leb level 27 (c2 .if2 .left), sym (c .before .is-side .ensures) ∙ not-true _ (c .if3 .taken))
+
+is-side-requires-2 : tie.Need-is-side-requires-2
+is-side-requires-2 c κs = search needs
+
+returns-4 : tie.Need-returns-4
+unfolding sidesFound isCell
+returns-4 c =
+    let c3 = c .before .before in
+    let c2 = c3 .before .before in
+    let level = c2 .before .before .before .before .args .c .level in
+    rw (
+      le-leb 9 level (c2 .before .if1 .left),
+      le-leb level 27 (c2 .if2 .left),
+      sym (c3 .before .is-side .ensures) ∙ not-false _ (c3 .if3 .left),
+      sym (c .before .is-side2 .ensures) ∙ not-true _ (c .if4 .taken),
+    )
+
+high-side-requires : tie.Need-high-side-requires
+high-side-requires c κs = in-range c .0
+
+high-side-requires-2 : tie.Need-high-side-requires-2
+high-side-requires-2 c κs = in-range (c .before) .1
+
+returns-5 : tie.Need-returns-5
+unfolding sidesFound isCell sidesOf
+returns-5 c =
+    let c4 = c .before .before in
+    let c3 = c4 .before .before in
+    let c2 = c3 .before .before in
+    let level = c2 .before .before .before .before .args .c .level in
+    rw (
+      le-leb 9 level (c2 .before .if1 .left),
+      le-leb level 27 (c2 .if2 .left),
+      sym (c3 .before .is-side .ensures) ∙ not-false _ (c3 .if3 .left),
+      sym (c4 .before .is-side2 .ensures) ∙ not-false _ (c4 .if4 .left),
+      c .before .high-side .ensures,
+      c .high-side2 .ensures,
+    )
+
+pub sides-found-spec : {M : Type 1} → statement M
+sides-found-spec =
+    tie.close
+    (tie.spec
+    returns
+    returns-2
+    is-side-requires
+    returns-3
+    is-side-requires-2
+    returns-4
+    high-side-requires
+    high-side-requires-2
+    returns-5)
