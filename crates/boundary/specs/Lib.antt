@@ -1,3 +1,5 @@
 pub mod Boundary
 pub mod Products
 pub mod Missing
+pub mod Odd
+pub mod Parity
