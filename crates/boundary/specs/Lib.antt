@@ -3,3 +3,4 @@ pub mod Products
 pub mod Missing
 pub mod Odd
 pub mod Parity
+pub mod Inner

@@ -33,9 +33,17 @@ pub record Holds (r : Rectangle) (p : Point) : Type 0 where
   pub south : r .south .0 ≤ p .lat .0
   pub north : p .lat .0 ≤ r .north .0
 
--- Each point of a rectangle is left of the line from a to b, or on it
+-- A point is left of the line from a to b, or on it
+abbrev pub Leftward : Point → Point → Point → Type 0
+Leftward a b p = rightSum a b p ≤ leftSum a b p
+
+-- and so is each point of a rectangle
 abbrev pub LeftOf : Point → Point → Rectangle → Type 0
-LeftOf a b r = (p : Point) → Holds r p → rightSum a b p ≤ leftSum a b p
+LeftOf a b r = (p : Point) → Holds r p → Leftward a b p
+
+-- The point at a latitude and a longitude
+abbrev pub at : Lat → Lon → Point
+at y x = record { lat = y; lon = x }
 
 -- An edge misses a rectangle: it is beyond a side, or the rectangle lies on one side of its line
 pub data Missed (e : Edge) (r : Rectangle) : Type 0 where
@@ -77,13 +85,13 @@ between-left : (ax ay bx by x X y Y px py : ℕ)
     → bx * ay + X * by + ax * Y ≤ ax * by + bx * Y + X * ay
     → x ≤ px → px ≤ X → y ≤ py → py ≤ Y
     → bx * ay + px * by + ax * py ≤ ax * by + bx * py + px * ay
-between-left ax ay bx by x X y Y px py sw se nw ne w e s n = at (either-way ay by) (either-way ax bx)
+between-left ax ay bx by x X y Y px py sw se nw ne w e s n = case (either-way ay by) (either-way ax bx)
   where
-    at : (ay ≤ by) ⊎ (by < ay) → (ax ≤ bx) ⊎ (bx < ax) → bx * ay + px * by + ax * py ≤ ax * by + bx * py + px * ay
-    at (inl h) (inl k) = omega (arith, product-le h e, product-le k s)
-    at (inl h) (inr k) = let l : bx ≤ ax = omega arith in omega (arith, product-le h e, product-le l n)
-    at (inr h) (inl k) = let l : by ≤ ay = omega arith in omega (arith, product-le l w, product-le k s)
-    at (inr h) (inr k) =
+    case : (ay ≤ by) ⊎ (by < ay) → (ax ≤ bx) ⊎ (bx < ax) → bx * ay + px * by + ax * py ≤ ax * by + bx * py + px * ay
+    case (inl h) (inl k) = omega (arith, product-le h e, product-le k s)
+    case (inl h) (inr k) = let l : bx ≤ ax = omega arith in omega (arith, product-le h e, product-le l n)
+    case (inr h) (inl k) = let l : by ≤ ay = omega arith in omega (arith, product-le l w, product-le k s)
+    case (inr h) (inr k) =
         let l : by ≤ ay = omega arith in
         let m : bx ≤ ax = omega arith in
         omega (arith, product-le l w, product-le m n)
@@ -96,36 +104,35 @@ all-left a b r e p h =
     let two = both (sw && se) nw (three .0) in
     let one = both sw se (two .0) in
     between-left (a .lon .0) (a .lat .0) (b .lon .0) (b .lat .0) (r .west .0) (r .east .0) (r .south .0) (r .north .0) (p .lon .0) (p .lat .0)
-    (corner (r .south) (r .west) (one .0)) (corner (r .south) (r .east) (one .1)) (corner (r .north) (r .west) (two .1))
-    (corner (r .north) (r .east) (three .1)) (h .west) (h .east) (h .south) (h .north)
+    (corner (at (r .south) (r .west)) (one .0)) (corner (at (r .south) (r .east)) (one .1)) (corner (at (r .north) (r .west)) (two .1))
+    (corner (at (r .north) (r .east)) (three .1)) (h .west) (h .east) (h .south) (h .north)
   where
     sw : Bool
-    sw = leftOrOn a b (record { lat = r .south; lon = r .west })
+    sw = leftOrOn a b (at (r .south) (r .west))
 
     se : Bool
-    se = leftOrOn a b (record { lat = r .south; lon = r .east })
+    se = leftOrOn a b (at (r .south) (r .east))
 
     nw : Bool
-    nw = leftOrOn a b (record { lat = r .north; lon = r .west })
+    nw = leftOrOn a b (at (r .north) (r .west))
 
     ne : Bool
-    ne = leftOrOn a b (record { lat = r .north; lon = r .east })
+    ne = leftOrOn a b (at (r .north) (r .east))
 
-    corner : (y : Lat) (x : Lon) → leftOrOn a b (record { lat = y; lon = x }) ≡ true
-        → rightSum a b (record { lat = y; lon = x }) ≤ leftSum a b (record { lat = y; lon = x })
-    corner y x e = leb-true (rightSum a b (record { lat = y; lon = x })) (leftSum a b (record { lat = y; lon = x })) e
+    corner : (v : Point) → leftOrOn a b v ≡ true → Leftward a b v
+    corner v e = leb-true (rightSum a b v) (leftSum a b v) e
 
 -- and the other way, where the sides are in order
 left-all : (a b : Point) {r : Rectangle} → Ordered r → LeftOf a b r → allLeft a b r ≡ true
 unfolding leftOrOn
 left-all a b {r} o l =
     ap₂ _&&_
-    (ap₂ _&&_ (ap₂ _&&_ (corner (r .south) (r .west) (omega arith)) (corner (r .south) (r .east) (omega arith)))
-    (corner (r .north) (r .west) (omega arith)))
-    (corner (r .north) (r .east) (omega arith))
+    (ap₂ _&&_ (ap₂ _&&_ (corner (at (r .south) (r .west)) (omega arith)) (corner (at (r .south) (r .east)) (omega arith)))
+    (corner (at (r .north) (r .west)) (omega arith)))
+    (corner (at (r .north) (r .east)) (omega arith))
   where
-    corner : (y : Lat) (x : Lon) → Holds r (record { lat = y; lon = x }) → leftOrOn a b (record { lat = y; lon = x }) ≡ true
-    corner y x h = le-leb (rightSum a b (record { lat = y; lon = x })) (leftSum a b (record { lat = y; lon = x })) (l (record { lat = y; lon = x }) h)
+    corner : (v : Point) → Holds r v → leftOrOn a b v ≡ true
+    corner v h = le-leb (rightSum a b v) (leftSum a b v) (l v h)
 
 module _ (e : Edge) (r : Rectangle) where
   -- The tests of the four sides, and of the two directions of the line

@@ -9,9 +9,10 @@ use lib.Dec.{leb}
 use borrow.Author.Tests.{leb-true, leb-false, le-leb, lt-leb, lt-ltb, le-ltb}
 use Rattle.ground.specs.declared.Point.{Point}
 use Rattle.ground.specs.declared.Rectangle.{Rectangle}
+use Rattle.ground.specs.Levels.{lon}
 use Rattle.boundary.specs.Boundary.{Edge, edgesOf, leftSum, rightSum, left, misses, crossesEast, pointInside, unmet}
 use Rattle.boundary.specs.Products.{product-le, product-lt, either-way}
-use Rattle.boundary.specs.Missing.{LeftOf, Missed, west, east, south, north, onLeft, onRight, both, missed}
+use Rattle.boundary.specs.Missing.{Leftward, LeftOf, at, Missed, west, east, south, north, onLeft, onRight, both, missed}
 use Rattle.boundary.specs.Odd.{differ, oddly, Each, differ-comm, differ-none, exchange, inside-odd, odd-differ, even-around}
 
 -- A point of a rectangle, its east and north sides left out
@@ -47,14 +48,17 @@ pub crosses-so : (e : Edge) (p : Point) (k : Bool)
     → (e .end .lat .0 ≤ p .lat .0 → p .lat .0 < e .start .lat .0 → left (e .end) (e .start) p ≡ k)
     → crossesEast p e ≡ (k && differ (low (e .start) p) (low (e .end) p))
 unfolding crossesEast
-crosses-so e p k up down = at (low (e .start) p) (low (e .end) p) refl refl
+crosses-so e p k up down = case (low (e .start) p) (low (e .end) p) refl refl
   where
-    at : (a b : Bool) → low (e .start) p ≡ a → low (e .end) p ≡ b
+    case : (a b : Bool) → low (e .start) p ≡ a → low (e .end) p ≡ b
         → (a && not b && left (e .start) (e .end) p || b && not a && left (e .end) (e .start) p) ≡ (k && differ a b)
-    at true true h l = sym (and-false k)
-    at true false h l = or-false (left (e .start) (e .end) p) ∙ up (leb-true (e .start .lat .0) (p .lat .0) h) (leb-false (e .end .lat .0) (p .lat .0) l) ∙ sym (and-true k)
-    at false true h l = down (leb-true (e .end .lat .0) (p .lat .0) l) (leb-false (e .start .lat .0) (p .lat .0) h) ∙ sym (and-true k)
-    at false false h l = sym (and-false k)
+    case true true h l = sym (and-false k)
+    case true false h l =
+        or-false (left (e .start) (e .end) p)
+        ∙ up (leb-true (e .start .lat .0) (p .lat .0) h) (leb-false (e .end .lat .0) (p .lat .0) l)
+        ∙ sym (and-true k)
+    case false true h l = down (leb-true (e .end .lat .0) (p .lat .0) l) (leb-false (e .start .lat .0) (p .lat .0) h) ∙ sym (and-true k)
+    case false false h l = sym (and-false k)
 
 -- An edge upward, west of a point
 pub up-west : (a b p : Point) → a .lat .0 ≤ p .lat .0 → p .lat .0 ≤ b .lat .0 → a .lon .0 ≤ p .lon .0 → b .lon .0 ≤ p .lon .0
@@ -93,73 +97,61 @@ module _ {r : Rectangle} (room : Room r) (a b : Point) (l : LeftOf a b r) where
   -- A rectangle left of a line upward lies west of each point of the line
   up-beyond : a .lat .0 < b .lat .0 → (v : Point) → leftSum a b v ≡ rightSum a b v → r .south .0 ≤ v .lat .0 → v .lat .0 ≤ r .north .0
       → r .east .0 ≤ v .lon .0
-  up-beyond u v on s n =
-      let h : rightSum a b (record { lat = v .lat; lon = r .east }) ≤ leftSum a b (record { lat = v .lat; lon = r .east }) =
-      l (record { lat = v .lat; lon = r .east }) (omega arith) in
-      at (either-way (r .east .0) (v .lon .0)) h
+  up-beyond u v on s n = case (either-way (r .east .0) (v .lon .0)) (l (at (v .lat) (r .east)) (omega arith))
     where
-      at : (r .east .0 ≤ v .lon .0) ⊎ (v .lon .0 < r .east .0)
-          → rightSum a b (record { lat = v .lat; lon = r .east }) ≤ leftSum a b (record { lat = v .lat; lon = r .east }) → r .east .0 ≤ v .lon .0
-      at (inl k) h = k
-      at (inr k) h = omega (arith, product-lt k u)
+      case : (r .east .0 ≤ v .lon .0) ⊎ (v .lon .0 < r .east .0) → Leftward a b (at (v .lat) (r .east)) → r .east .0 ≤ v .lon .0
+      case (inl k) h = k
+      case (inr k) h = omega (arith, product-lt k u)
 
   -- and of a line downward east of them
   down-beyond : b .lat .0 < a .lat .0 → (v : Point) → leftSum a b v ≡ rightSum a b v → r .south .0 ≤ v .lat .0 → v .lat .0 ≤ r .north .0
       → v .lon .0 ≤ r .west .0
-  down-beyond u v on s n =
-      let h : rightSum a b (record { lat = v .lat; lon = r .west }) ≤ leftSum a b (record { lat = v .lat; lon = r .west }) =
-      l (record { lat = v .lat; lon = r .west }) (omega arith) in
-      at (either-way (v .lon .0) (r .west .0)) h
+  down-beyond u v on s n = case (either-way (v .lon .0) (r .west .0)) (l (at (v .lat) (r .west)) (omega arith))
     where
-      at : (v .lon .0 ≤ r .west .0) ⊎ (r .west .0 < v .lon .0)
-          → rightSum a b (record { lat = v .lat; lon = r .west }) ≤ leftSum a b (record { lat = v .lat; lon = r .west }) → v .lon .0 ≤ r .west .0
-      at (inl k) h = k
-      at (inr k) h = omega (arith, product-lt k u)
+      case : (v .lon .0 ≤ r .west .0) ⊎ (r .west .0 < v .lon .0) → Leftward a b (at (v .lat) (r .west)) → v .lon .0 ≤ r .west .0
+      case (inl k) h = k
+      case (inr k) h = omega (arith, product-lt k u)
 
   -- A level line between south and north has no length
   level-none : a .lat .0 ≡ b .lat .0 → r .south .0 < a .lat .0 → a .lat .0 < r .north .0 → a .lon .0 ≡ b .lon .0
   level-none u s n =
-      at (either-way (a .lon .0) (b .lon .0)) (either-way (b .lon .0) (a .lon .0))
-      (l (record { lat = r .south; lon = r .west }) (omega arith))
-      (l (record { lat = r .north; lon = r .west }) (omega arith))
+      case (either-way (a .lon .0) (b .lon .0)) (either-way (b .lon .0) (a .lon .0)) (l (at (r .south) (r .west)) (omega arith))
+      (l (at (r .north) (r .west)) (omega arith))
     where
       times : (x : ℕ) → x * a .lat .0 ≡ x * b .lat .0
       times x = ap (λ (y : ℕ). x * y) u
 
-      at : (a .lon .0 ≤ b .lon .0) ⊎ (b .lon .0 < a .lon .0) → (b .lon .0 ≤ a .lon .0) ⊎ (a .lon .0 < b .lon .0)
-          → rightSum a b (record { lat = r .south; lon = r .west }) ≤ leftSum a b (record { lat = r .south; lon = r .west })
-          → rightSum a b (record { lat = r .north; lon = r .west }) ≤ leftSum a b (record { lat = r .north; lon = r .west })
-          → a .lon .0 ≡ b .lon .0
-      at (inl h) (inl k) f g = omega arith
-      at (inl h) (inr k) f g = omega (arith, times (r .west .0), times (a .lon .0), product-lt k s)
-      at (inr h) (inl k) f g = omega (arith, times (r .west .0), times (a .lon .0), product-lt h n)
-      at (inr h) (inr k) f g = omega arith
+      case : (a .lon .0 ≤ b .lon .0) ⊎ (b .lon .0 < a .lon .0) → (b .lon .0 ≤ a .lon .0) ⊎ (a .lon .0 < b .lon .0)
+          → Leftward a b (at (r .south) (r .west)) → Leftward a b (at (r .north) (r .west)) → a .lon .0 ≡ b .lon .0
+      case (inl h) (inl k) f g = omega arith
+      case (inl h) (inr k) f g = omega (arith, times (r .west .0), times (a .lon .0), product-lt k s)
+      case (inr h) (inl k) f g = omega (arith, times (r .west .0), times (a .lon .0), product-lt h n)
+      case (inr h) (inr k) f g = omega arith
 
   -- Each of its points is not right of the line
   right-not : (p : Point) → Lies r p → left b a p ≡ false
   unfolding left
   right-not p h =
-      let k : rightSum a b p ≤ leftSum a b p = l p (omega arith) in
+      let k : Leftward a b p = l p (omega arith) in
       le-ltb (rightSum b a p) (leftSum b a p) (omega arith)
 
   -- and left of it where the line goes upward
   up-left : a .lat .0 < b .lat .0 → (p : Point) → Lies r p → left a b p ≡ true
   unfolding left
   up-left u p h =
-      let k : rightSum a b (record { lat = p .lat; lon = record { 0 = suc (p .lon .0) } })
-      ≤ leftSum a b (record { lat = p .lat; lon = record { 0 = suc (p .lon .0) } }) =
-      l (record { lat = p .lat; lon = record { 0 = suc (p .lon .0) } }) (omega arith) in
+      let east : Point = at (p .lat) (lon (suc (p .lon .0))) in
+      let k : Leftward a b east = l east (omega arith) in
       lt-ltb (rightSum a b p) (leftSum a b p) (omega arith)
 
   -- An edge that has the rectangle on its left
   left-sided : Sided (record { start = a; end = b }) r
-  left-sided = at (either-way (a .lat .0) (b .lat .0)) (either-way (b .lat .0) (a .lat .0))
+  left-sided = case (either-way (a .lat .0) (b .lat .0)) (either-way (b .lat .0) (a .lat .0))
     where
       e : Edge
       e = record { start = a; end = b }
 
-      at : (a .lat .0 ≤ b .lat .0) ⊎ (b .lat .0 < a .lat .0) → (b .lat .0 ≤ a .lat .0) ⊎ (a .lat .0 < b .lat .0) → Sided e r
-      at (inl h) (inl k) =
+      case : (a .lat .0 ≤ b .lat .0) ⊎ (b .lat .0 < a .lat .0) → (b .lat .0 ≤ a .lat .0) ⊎ (a .lat .0 < b .lat .0) → Sided e r
+      case (inl h) (inl k) =
           let u : a .lat .0 ≡ b .lat .0 = omega arith in
           record {
             side = beyondEast r a;
@@ -167,21 +159,21 @@ module _ {r : Rectangle} (room : Room r) (a b : Point) (l : LeftOf a b r) where
             start = λ s n. refl;
             end = λ s n. ap (λ (x : ℕ). leb (r .east .0) x) (sym (level-none u (omega arith) (omega arith)));
           }
-      at (inl h) (inr k) =
+      case (inl h) (inr k) =
           record {
             side = true;
             crosses = λ p m. crosses-so e p true (λ x y. up-left k p m) (λ x y. absurd (omega arith));
             start = λ s n. le-leb (r .east .0) (a .lon .0) (up-beyond k a (omega arith) (omega arith) (omega arith));
             end = λ s n. le-leb (r .east .0) (b .lon .0) (up-beyond k b (omega arith) (omega arith) (omega arith));
           }
-      at (inr h) (inl k) =
+      case (inr h) (inl k) =
           record {
             side = false;
             crosses = λ p m. crosses-so e p false (λ x y. absurd (omega arith)) (λ x y. right-not p m);
             start = λ s n. lt-leb (r .east .0) (a .lon .0) (omega (arith, down-beyond h a (omega arith) (omega arith) (omega arith)));
             end = λ s n. lt-leb (r .east .0) (b .lon .0) (omega (arith, down-beyond h b (omega arith) (omega arith) (omega arith)));
           }
-      at (inr h) (inr k) = absurd (omega arith)
+      case (inr h) (inr k) = absurd (omega arith)
 
 -- An edge turned round
 turned : {a b : Point} {r : Rectangle} → Sided (record { start = b; end = a }) r → Sided (record { start = a; end = b }) r
@@ -238,13 +230,19 @@ module _ {r : Rectangle} {p q : Point} (in-p : Lies r p) (in-q : Lies r q) where
   -- It tells its side
   between-side : (v : Point) (k : Bool) → (r .south .0 < v .lat .0 → v .lat .0 < r .north .0 → beyondEast r v ≡ k)
       → between v ≡ (k && differ (low v p) (low v q))
-  between-side v k h = at (low v p) (low v q) refl refl
+  between-side v k h = case (low v p) (low v q) refl refl
     where
-      at : (a b : Bool) → low v p ≡ a → low v q ≡ b → (beyondEast r v && differ a b) ≡ (k && differ a b)
-      at true true x y = and-false (beyondEast r v) ∙ sym (and-false k)
-      at true false x y = ap (λ (t : Bool). t && true) (h (omega (arith, leb-false (v .lat .0) (q .lat .0) y)) (omega (arith, leb-true (v .lat .0) (p .lat .0) x)))
-      at false true x y = ap (λ (t : Bool). t && true) (h (omega (arith, leb-false (v .lat .0) (p .lat .0) x)) (omega (arith, leb-true (v .lat .0) (q .lat .0) y)))
-      at false false x y = and-false (beyondEast r v) ∙ sym (and-false k)
+      case : (a b : Bool) → low v p ≡ a → low v q ≡ b → (beyondEast r v && differ a b) ≡ (k && differ a b)
+      case true true x y = and-false (beyondEast r v) ∙ sym (and-false k)
+      case true false x y =
+          let above : q .lat .0 < v .lat .0 = leb-false (v .lat .0) (q .lat .0) y in
+          let below : v .lat .0 ≤ p .lat .0 = leb-true (v .lat .0) (p .lat .0) x in
+          ap (λ (t : Bool). t && true) (h (omega arith) (omega arith))
+      case false true x y =
+          let above : p .lat .0 < v .lat .0 = leb-false (v .lat .0) (p .lat .0) x in
+          let below : v .lat .0 ≤ q .lat .0 = leb-true (v .lat .0) (q .lat .0) y in
+          ap (λ (t : Bool). t && true) (h (omega arith) (omega arith))
+      case false false x y = and-false (beyondEast r v) ∙ sym (and-false k)
 
   -- An edge that misses the rectangle is counted for one of the two points where one of its ends is such
   tells : (e : Edge) → Missed e r → differ (crossesEast p e) (crossesEast q e) ≡ differ (between (e .start)) (between (e .end))
