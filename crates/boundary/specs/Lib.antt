@@ -4,3 +4,4 @@ pub mod Missing
 pub mod Odd
 pub mod Parity
 pub mod Inner
+pub mod Apart
