@@ -3,3 +3,8 @@ pub mod Products
 pub mod Signs
 pub mod Extreme
 pub mod Edges
+pub mod Missing
+pub mod Odd
+pub mod Parity
+pub mod Inner
+pub mod Apart

@@ -1,0 +1,214 @@
+-- An edge that misses a rectangle: what the test says of it, and that it misses every rectangle within. Assumes nothing.
+use Prim.Native.Nat.{ℕ, _+_, _*_, _≤_, _<_}
+use native.Mathlib.Omega.{arith}
+use mathlib.Core.Path.{_≡_, refl, ap, ap₂}
+use mathlib.Core.Logic.{_⊎_, inl, inr}
+use mathlib.Core.Bool.{Bool, true, false, _&&_, _||_, false≢true}
+use mathlib.Core.List.{List, [], _∷_}
+use lib.Dec.{leb}
+use borrow.Author.Tests.{leb-true, le-leb}
+use Rattle.ground.specs.declared.Lat.{Lat}
+use Rattle.ground.specs.declared.Lon.{Lon}
+use Rattle.ground.specs.declared.Point.{Point}
+use Rattle.ground.specs.declared.Rectangle.{Rectangle}
+use Rattle.boundary.specs.Boundary.{Edge, leftSum, rightSum, leftOrOn, allLeft, beyond, misses, unmet}
+use Rattle.boundary.specs.Products.{product-le, either-way}
+
+-- A rectangle within another
+pub record Within (r s : Rectangle) : Type 0 where
+  pub west : s .west .0 ≤ r .west .0
+  pub east : r .east .0 ≤ s .east .0
+  pub south : s .south .0 ≤ r .south .0
+  pub north : r .north .0 ≤ s .north .0
+
+-- The sides of a rectangle are in order
+pub record Ordered (r : Rectangle) : Type 0 where
+  pub across : r .west .0 ≤ r .east .0
+  pub up : r .south .0 ≤ r .north .0
+
+-- A point of a rectangle, its sides included
+pub record Holds (r : Rectangle) (p : Point) : Type 0 where
+  pub west : r .west .0 ≤ p .lon .0
+  pub east : p .lon .0 ≤ r .east .0
+  pub south : r .south .0 ≤ p .lat .0
+  pub north : p .lat .0 ≤ r .north .0
+
+-- A point is left of the line from a to b, or on it
+abbrev pub Leftward : Point → Point → Point → Type 0
+Leftward a b p = rightSum a b p ≤ leftSum a b p
+
+-- and so is each point of a rectangle
+abbrev pub LeftOf : Point → Point → Rectangle → Type 0
+LeftOf a b r = (p : Point) → Holds r p → Leftward a b p
+
+-- The point at a latitude and a longitude
+abbrev pub at : Lat → Lon → Point
+at y x = record { lat = y; lon = x }
+
+-- An edge misses a rectangle: it is beyond a side, or the rectangle lies on one side of its line
+pub data Missed (e : Edge) (r : Rectangle) : Type 0 where
+  west : e .start .lon .0 ≤ r .west .0 → e .end .lon .0 ≤ r .west .0 → Missed e r
+  east : r .east .0 ≤ e .start .lon .0 → r .east .0 ≤ e .end .lon .0 → Missed e r
+  south : e .start .lat .0 ≤ r .south .0 → e .end .lat .0 ≤ r .south .0 → Missed e r
+  north : r .north .0 ≤ e .start .lat .0 → r .north .0 ≤ e .end .lat .0 → Missed e r
+  onLeft : LeftOf (e .start) (e .end) r → Missed e r
+  onRight : LeftOf (e .end) (e .start) r → Missed e r
+
+-- Tests joined by "and" and "or"
+pub both : (a b : Bool) → (a && b) ≡ true → (a ≡ true) × (b ≡ true)
+both true b e = (refl, e)
+both false b e = absurd (false≢true e)
+
+pub either : (a b : Bool) → (a || b) ≡ true → (a ≡ true) ⊎ (b ≡ true)
+either true b e = inl refl
+either false b e = inr e
+
+pub or-left : {a : Bool} (b : Bool) → a ≡ true → (a || b) ≡ true
+or-left b p = ap (λ (t : Bool). t || b) p
+
+pub or-right : (a : Bool) {b : Bool} → b ≡ true → (a || b) ≡ true
+or-right true q = refl
+or-right false q = q
+
+-- Two comparisons, both ways
+two : (a b c d : ℕ) → (leb a b && leb c d) ≡ true → (a ≤ b) × (c ≤ d)
+two a b c d e = let t = both (leb a b) (leb c d) e in (leb-true a b (t .0), leb-true c d (t .1))
+
+two-back : {a b c d : ℕ} → a ≤ b → c ≤ d → (leb a b && leb c d) ≡ true
+two-back {a} {b} {c} {d} h k = ap₂ _&&_ (le-leb a b h) (le-leb c d k)
+
+-- The side of a line is a linear function: a point between x and X, y and Y is left of it where the four corners are
+between-left : (ax ay bx by x X y Y px py : ℕ)
+    → bx * ay + x * by + ax * y ≤ ax * by + bx * y + x * ay
+    → bx * ay + X * by + ax * y ≤ ax * by + bx * y + X * ay
+    → bx * ay + x * by + ax * Y ≤ ax * by + bx * Y + x * ay
+    → bx * ay + X * by + ax * Y ≤ ax * by + bx * Y + X * ay
+    → x ≤ px → px ≤ X → y ≤ py → py ≤ Y
+    → bx * ay + px * by + ax * py ≤ ax * by + bx * py + px * ay
+between-left ax ay bx by x X y Y px py sw se nw ne w e s n = case (either-way ay by) (either-way ax bx)
+  where
+    case : (ay ≤ by) ⊎ (by < ay) → (ax ≤ bx) ⊎ (bx < ax) → bx * ay + px * by + ax * py ≤ ax * by + bx * py + px * ay
+    case (inl h) (inl k) = omega (arith, product-le h e, product-le k s)
+    case (inl h) (inr k) = let l : bx ≤ ax = omega arith in omega (arith, product-le h e, product-le l n)
+    case (inr h) (inl k) = let l : by ≤ ay = omega arith in omega (arith, product-le l w, product-le k s)
+    case (inr h) (inr k) =
+        let l : by ≤ ay = omega arith in
+        let m : bx ≤ ax = omega arith in
+        omega (arith, product-le l w, product-le m n)
+
+-- Where the four corners lie all on one side of a line, each point of the rectangle does
+all-left : (a b : Point) (r : Rectangle) → allLeft a b r ≡ true → LeftOf a b r
+unfolding leftOrOn
+all-left a b r e p h =
+    let three = both (sw && se && nw) ne e in
+    let two = both (sw && se) nw (three .0) in
+    let one = both sw se (two .0) in
+    between-left (a .lon .0) (a .lat .0) (b .lon .0) (b .lat .0) (r .west .0) (r .east .0) (r .south .0) (r .north .0) (p .lon .0) (p .lat .0)
+    (corner (at (r .south) (r .west)) (one .0)) (corner (at (r .south) (r .east)) (one .1)) (corner (at (r .north) (r .west)) (two .1))
+    (corner (at (r .north) (r .east)) (three .1)) (h .west) (h .east) (h .south) (h .north)
+  where
+    sw : Bool
+    sw = leftOrOn a b (at (r .south) (r .west))
+
+    se : Bool
+    se = leftOrOn a b (at (r .south) (r .east))
+
+    nw : Bool
+    nw = leftOrOn a b (at (r .north) (r .west))
+
+    ne : Bool
+    ne = leftOrOn a b (at (r .north) (r .east))
+
+    corner : (v : Point) → leftOrOn a b v ≡ true → Leftward a b v
+    corner v e = leb-true (rightSum a b v) (leftSum a b v) e
+
+-- and the other way, where the sides are in order
+left-all : (a b : Point) {r : Rectangle} → Ordered r → LeftOf a b r → allLeft a b r ≡ true
+unfolding leftOrOn
+left-all a b {r} o l =
+    ap₂ _&&_
+    (ap₂ _&&_ (ap₂ _&&_ (corner (at (r .south) (r .west)) (omega arith)) (corner (at (r .south) (r .east)) (omega arith)))
+    (corner (at (r .north) (r .west)) (omega arith)))
+    (corner (at (r .north) (r .east)) (omega arith))
+  where
+    corner : (v : Point) → Holds r v → leftOrOn a b v ≡ true
+    corner v h = le-leb (rightSum a b v) (leftSum a b v) (l v h)
+
+module _ (e : Edge) (r : Rectangle) where
+  -- The tests of the four sides, and of the two directions of the line
+  abbrev w : Bool
+  w = leb (e .start .lon .0) (r .west .0) && leb (e .end .lon .0) (r .west .0)
+
+  abbrev x : Bool
+  x = leb (r .east .0) (e .start .lon .0) && leb (r .east .0) (e .end .lon .0)
+
+  abbrev s : Bool
+  s = leb (e .start .lat .0) (r .south .0) && leb (e .end .lat .0) (r .south .0)
+
+  abbrev n : Bool
+  n = leb (r .north .0) (e .start .lat .0) && leb (r .north .0) (e .end .lat .0)
+
+  abbrev f : Bool
+  f = allLeft (e .start) (e .end) r
+
+  abbrev b : Bool
+  b = allLeft (e .end) (e .start) r
+
+  -- What the test says of an edge
+  pub missed : misses e r ≡ true → Missed e r
+  unfolding misses
+  missed t = right (either (beyond e r || f) b t)
+    where
+      across : (w ≡ true) ⊎ (x ≡ true) → Missed e r
+      across (inl h) = let t = two (e .start .lon .0) (r .west .0) (e .end .lon .0) (r .west .0) h in west (t .0) (t .1)
+      across (inr h) = let t = two (r .east .0) (e .start .lon .0) (r .east .0) (e .end .lon .0) h in east (t .0) (t .1)
+
+      below : ((w || x) ≡ true) ⊎ (s ≡ true) → Missed e r
+      below (inl h) = across (either w x h)
+      below (inr h) = let t = two (e .start .lat .0) (r .south .0) (e .end .lat .0) (r .south .0) h in south (t .0) (t .1)
+
+      above : ((w || x || s) ≡ true) ⊎ (n ≡ true) → Missed e r
+      above (inl h) = below (either (w || x) s h)
+      above (inr h) = let t = two (r .north .0) (e .start .lat .0) (r .north .0) (e .end .lat .0) h in north (t .0) (t .1)
+
+      left : (beyond e r ≡ true) ⊎ (f ≡ true) → Missed e r
+      left (inl h) = above (either (w || x || s) n h)
+      left (inr h) = onLeft (all-left (e .start) (e .end) r h)
+
+      right : ((beyond e r || f) ≡ true) ⊎ (b ≡ true) → Missed e r
+      right (inl h) = left (either (beyond e r) f h)
+      right (inr h) = onRight (all-left (e .end) (e .start) r h)
+
+  -- and the other way, where the sides are in order
+  pub misses-so : Ordered r → Missed e r → misses e r ≡ true
+  unfolding misses
+  misses-so o (west h k) = or-left b (or-left f (or-left n (or-left s (or-left x (two-back h k)))))
+  misses-so o (east h k) = or-left b (or-left f (or-left n (or-left s (or-right w (two-back h k)))))
+  misses-so o (south h k) = or-left b (or-left f (or-left n (or-right (w || x) (two-back h k))))
+  misses-so o (north h k) = or-left b (or-left f (or-right (w || x || s) (two-back h k)))
+  misses-so o (onLeft l) = or-left b (or-right (beyond e r) (left-all (e .start) (e .end) o l))
+  misses-so o (onRight l) = or-right (beyond e r || f) (left-all (e .end) (e .start) o l)
+
+module _ {r s : Rectangle} (o : Ordered r) (h : Within r s) where
+  -- A point of a rectangle is one of each rectangle that it is within
+  held : {p : Point} → Holds r p → Holds s p
+  held k = omega arith
+
+  missed-within : {e : Edge} → Missed e s → Missed e r
+  missed-within (west k l) = west (omega arith) (omega arith)
+  missed-within (east k l) = east (omega arith) (omega arith)
+  missed-within (south k l) = south (omega arith) (omega arith)
+  missed-within (north k l) = north (omega arith) (omega arith)
+  missed-within (onLeft l) = onLeft (λ p k. l p (held k))
+  missed-within (onRight l) = onRight (λ p k. l p (held k))
+
+  -- An edge that misses a rectangle misses every rectangle within it
+  pub misses-within : (e : Edge) → misses e s ≡ true → misses e r ≡ true
+  misses-within e t = misses-so e r o (missed-within (missed e s t))
+
+  -- and so do the edges of a list
+  pub unmet-within : (es : List Edge) → unmet s es ≡ true → unmet r es ≡ true
+  unmet-within [] t = refl
+  unmet-within (e ∷ es) t =
+      let ts = both (misses e s) (unmet s es) t in
+      ap₂ _&&_ (misses-within e (ts .0)) (unmet-within es (ts .1))

@@ -1,0 +1,273 @@
+-- The odd count is the same at any two points of a rectangle that no edge meets. Assumes nothing.
+use Prim.Native.Nat.{ℕ, suc, _+_, _*_, _≤_, _<_}
+use native.Mathlib.Omega.{arith}
+use mathlib.Core.Path.{_≡_, refl, ap, ap₂, sym, _∙_}
+use mathlib.Core.Logic.{_⊎_, inl, inr}
+use mathlib.Core.Bool.{Bool, true, false, not, _&&_, _||_, and-true, and-false, or-false, or-comm}
+use mathlib.Core.List.{List, [], _∷_}
+use lib.Dec.{leb}
+use borrow.Author.Tests.{leb-true, leb-false, le-leb, lt-leb, lt-ltb, le-ltb}
+use Rattle.ground.specs.declared.Point.{Point}
+use Rattle.ground.specs.declared.Rectangle.{Rectangle}
+use Rattle.ground.specs.Levels.{lon}
+use Rattle.boundary.specs.Boundary.{Edge, edgesOf, leftSum, rightSum, left, misses, crossesEast, pointInside, unmet}
+use Rattle.boundary.specs.Products.{product-le, product-lt, either-way}
+use Rattle.boundary.specs.Missing.{Leftward, LeftOf, at, Missed, west, east, south, north, onLeft, onRight, both, missed}
+use Rattle.boundary.specs.Odd.{differ, oddly, Each, differ-comm, differ-none, exchange, inside-odd, odd-differ, even-around}
+
+-- A point of a rectangle, its east and north sides left out
+pub record Lies (r : Rectangle) (p : Point) : Type 0 where
+  pub west : r .west .0 ≤ p .lon .0
+  pub east : p .lon .0 < r .east .0
+  pub south : r .south .0 ≤ p .lat .0
+  pub north : p .lat .0 < r .north .0
+
+-- A rectangle that has room
+pub record Room (r : Rectangle) : Type 0 where
+  pub across : r .west .0 < r .east .0
+  pub up : r .south .0 < r .north .0
+
+-- A corner is at or below the latitude of a point
+abbrev pub low : Point → Point → Bool
+low v p = leb (v .lat .0) (p .lat .0)
+
+-- A corner is at or beyond the east side
+abbrev beyondEast : Rectangle → Point → Bool
+beyondEast r v = leb (r .east .0) (v .lon .0)
+
+-- An edge that misses a rectangle crosses each latitude of it east of its points, or none; its ends between south and north tell which
+record Sided (e : Edge) (r : Rectangle) : Type 0 where
+  side : Bool
+  crosses : (p : Point) → Lies r p → crossesEast p e ≡ (side && differ (low (e .start) p) (low (e .end) p))
+  start : r .south .0 < e .start .lat .0 → e .start .lat .0 < r .north .0 → beyondEast r (e .start) ≡ side
+  end : r .south .0 < e .end .lat .0 → e .end .lat .0 < r .north .0 → beyondEast r (e .end) ≡ side
+
+-- A crossing is counted or not by the side alone
+pub crosses-so : (e : Edge) (p : Point) (k : Bool)
+    → (e .start .lat .0 ≤ p .lat .0 → p .lat .0 < e .end .lat .0 → left (e .start) (e .end) p ≡ k)
+    → (e .end .lat .0 ≤ p .lat .0 → p .lat .0 < e .start .lat .0 → left (e .end) (e .start) p ≡ k)
+    → crossesEast p e ≡ (k && differ (low (e .start) p) (low (e .end) p))
+unfolding crossesEast
+crosses-so e p k up down = case (low (e .start) p) (low (e .end) p) refl refl
+  where
+    case : (a b : Bool) → low (e .start) p ≡ a → low (e .end) p ≡ b
+        → (a && not b && left (e .start) (e .end) p || b && not a && left (e .end) (e .start) p) ≡ (k && differ a b)
+    case true true h l = sym (and-false k)
+    case true false h l =
+        or-false (left (e .start) (e .end) p)
+        ∙ up (leb-true (e .start .lat .0) (p .lat .0) h) (leb-false (e .end .lat .0) (p .lat .0) l)
+        ∙ sym (and-true k)
+    case false true h l = down (leb-true (e .end .lat .0) (p .lat .0) l) (leb-false (e .start .lat .0) (p .lat .0) h) ∙ sym (and-true k)
+    case false false h l = sym (and-false k)
+
+-- An edge upward, west of a point
+pub up-west : (a b p : Point) → a .lat .0 ≤ p .lat .0 → p .lat .0 ≤ b .lat .0 → a .lon .0 ≤ p .lon .0 → b .lon .0 ≤ p .lon .0
+    → left a b p ≡ false
+unfolding left
+up-west a b p h k l m = le-ltb (rightSum a b p) (leftSum a b p) (omega (arith, product-le m h, product-le l k))
+
+-- and east of it
+pub up-east : (a b p : Point) → a .lat .0 ≤ p .lat .0 → p .lat .0 < b .lat .0 → p .lon .0 < a .lon .0 → p .lon .0 < b .lon .0
+    → left a b p ≡ true
+unfolding left
+up-east a b p h k l m =
+    let n : p .lon .0 ≤ b .lon .0 = omega arith in
+    lt-ltb (rightSum a b p) (leftSum a b p) (omega (arith, product-le n h, product-lt l k))
+
+module _ (e : Edge) (p : Point) where
+  -- An edge west of a point, below it or above it is not counted
+  pub west-none : e .start .lon .0 ≤ p .lon .0 → e .end .lon .0 ≤ p .lon .0 → crossesEast p e ≡ false
+  west-none h k =
+      crosses-so e p false (λ x y. up-west (e .start) (e .end) p x (omega arith) h k)
+      (λ x y. up-west (e .end) (e .start) p x (omega arith) k h)
+
+  pub below-none : e .start .lat .0 ≤ p .lat .0 → e .end .lat .0 ≤ p .lat .0 → crossesEast p e ≡ false
+  below-none h k = crosses-so e p false (λ x y. absurd (omega arith)) (λ x y. absurd (omega arith))
+
+  pub above-none : p .lat .0 < e .start .lat .0 → p .lat .0 < e .end .lat .0 → crossesEast p e ≡ false
+  above-none h k = crosses-so e p false (λ x y. absurd (omega arith)) (λ x y. absurd (omega arith))
+
+  -- and one east of it is where it has one end at or below
+  pub east-counts : p .lon .0 < e .start .lon .0 → p .lon .0 < e .end .lon .0
+      → crossesEast p e ≡ differ (low (e .start) p) (low (e .end) p)
+  east-counts h k =
+      crosses-so e p true (λ x y. up-east (e .start) (e .end) p x y h k) (λ x y. up-east (e .end) (e .start) p x y k h)
+
+module _ {r : Rectangle} (room : Room r) (a b : Point) (l : LeftOf a b r) where
+  -- A rectangle left of a line upward lies west of each point of the line
+  up-beyond : a .lat .0 < b .lat .0 → (v : Point) → leftSum a b v ≡ rightSum a b v → r .south .0 ≤ v .lat .0 → v .lat .0 ≤ r .north .0
+      → r .east .0 ≤ v .lon .0
+  up-beyond u v on s n = case (either-way (r .east .0) (v .lon .0)) (l (at (v .lat) (r .east)) (omega arith))
+    where
+      case : (r .east .0 ≤ v .lon .0) ⊎ (v .lon .0 < r .east .0) → Leftward a b (at (v .lat) (r .east)) → r .east .0 ≤ v .lon .0
+      case (inl k) h = k
+      case (inr k) h = omega (arith, product-lt k u)
+
+  -- and of a line downward east of them
+  down-beyond : b .lat .0 < a .lat .0 → (v : Point) → leftSum a b v ≡ rightSum a b v → r .south .0 ≤ v .lat .0 → v .lat .0 ≤ r .north .0
+      → v .lon .0 ≤ r .west .0
+  down-beyond u v on s n = case (either-way (v .lon .0) (r .west .0)) (l (at (v .lat) (r .west)) (omega arith))
+    where
+      case : (v .lon .0 ≤ r .west .0) ⊎ (r .west .0 < v .lon .0) → Leftward a b (at (v .lat) (r .west)) → v .lon .0 ≤ r .west .0
+      case (inl k) h = k
+      case (inr k) h = omega (arith, product-lt k u)
+
+  -- A level line between south and north has no length
+  level-none : a .lat .0 ≡ b .lat .0 → r .south .0 < a .lat .0 → a .lat .0 < r .north .0 → a .lon .0 ≡ b .lon .0
+  level-none u s n =
+      case (either-way (a .lon .0) (b .lon .0)) (either-way (b .lon .0) (a .lon .0)) (l (at (r .south) (r .west)) (omega arith))
+      (l (at (r .north) (r .west)) (omega arith))
+    where
+      times : (x : ℕ) → x * a .lat .0 ≡ x * b .lat .0
+      times x = ap (λ (y : ℕ). x * y) u
+
+      case : (a .lon .0 ≤ b .lon .0) ⊎ (b .lon .0 < a .lon .0) → (b .lon .0 ≤ a .lon .0) ⊎ (a .lon .0 < b .lon .0)
+          → Leftward a b (at (r .south) (r .west)) → Leftward a b (at (r .north) (r .west)) → a .lon .0 ≡ b .lon .0
+      case (inl h) (inl k) f g = omega arith
+      case (inl h) (inr k) f g = omega (arith, times (r .west .0), times (a .lon .0), product-lt k s)
+      case (inr h) (inl k) f g = omega (arith, times (r .west .0), times (a .lon .0), product-lt h n)
+      case (inr h) (inr k) f g = omega arith
+
+  -- Each of its points is not right of the line
+  right-not : (p : Point) → Lies r p → left b a p ≡ false
+  unfolding left
+  right-not p h =
+      let k : Leftward a b p = l p (omega arith) in
+      le-ltb (rightSum b a p) (leftSum b a p) (omega arith)
+
+  -- and left of it where the line goes upward
+  up-left : a .lat .0 < b .lat .0 → (p : Point) → Lies r p → left a b p ≡ true
+  unfolding left
+  up-left u p h =
+      let east : Point = at (p .lat) (lon (suc (p .lon .0))) in
+      let k : Leftward a b east = l east (omega arith) in
+      lt-ltb (rightSum a b p) (leftSum a b p) (omega arith)
+
+  -- An edge that has the rectangle on its left
+  left-sided : Sided (record { start = a; end = b }) r
+  left-sided = case (either-way (a .lat .0) (b .lat .0)) (either-way (b .lat .0) (a .lat .0))
+    where
+      e : Edge
+      e = record { start = a; end = b }
+
+      case : (a .lat .0 ≤ b .lat .0) ⊎ (b .lat .0 < a .lat .0) → (b .lat .0 ≤ a .lat .0) ⊎ (a .lat .0 < b .lat .0) → Sided e r
+      case (inl h) (inl k) =
+          let u : a .lat .0 ≡ b .lat .0 = omega arith in
+          record {
+            side = beyondEast r a;
+            crosses = λ p m. crosses-so e p (beyondEast r a) (λ x y. absurd (omega arith)) (λ x y. absurd (omega arith));
+            start = λ s n. refl;
+            end = λ s n. ap (λ (x : ℕ). leb (r .east .0) x) (sym (level-none u (omega arith) (omega arith)));
+          }
+      case (inl h) (inr k) =
+          record {
+            side = true;
+            crosses = λ p m. crosses-so e p true (λ x y. up-left k p m) (λ x y. absurd (omega arith));
+            start = λ s n. le-leb (r .east .0) (a .lon .0) (up-beyond k a (omega arith) (omega arith) (omega arith));
+            end = λ s n. le-leb (r .east .0) (b .lon .0) (up-beyond k b (omega arith) (omega arith) (omega arith));
+          }
+      case (inr h) (inl k) =
+          record {
+            side = false;
+            crosses = λ p m. crosses-so e p false (λ x y. absurd (omega arith)) (λ x y. right-not p m);
+            start = λ s n. lt-leb (r .east .0) (a .lon .0) (omega (arith, down-beyond h a (omega arith) (omega arith) (omega arith)));
+            end = λ s n. lt-leb (r .east .0) (b .lon .0) (omega (arith, down-beyond h b (omega arith) (omega arith) (omega arith)));
+          }
+      case (inr h) (inr k) = absurd (omega arith)
+
+-- An edge turned round
+turned : {a b : Point} {r : Rectangle} → Sided (record { start = b; end = a }) r → Sided (record { start = a; end = b }) r
+unfolding crossesEast
+turned {a} {b} {r} s =
+    record {
+      side = s .side;
+      crosses = λ p h. swap p ∙ s .crosses p h ∙ ap (λ (t : Bool). s .side && t) (differ-comm (low b p) (low a p));
+      start = s .end;
+      end = s .start;
+    }
+  where
+    swap : (p : Point) → crossesEast p (record { start = a; end = b }) ≡ crossesEast p (record { start = b; end = a })
+    swap p = or-comm (low a p && not (low b p) && left a b p) (low b p && not (low a p) && left b a p)
+
+-- Each edge that misses a rectangle with room is sided
+sided : {r : Rectangle} → Room r → (e : Edge) → Missed e r → Sided e r
+sided {r} room e (west h k) =
+    record {
+      side = false;
+      crosses = λ p m. west-none e p (omega arith) (omega arith);
+      start = λ s n. lt-leb (r .east .0) (e .start .lon .0) (omega arith);
+      end = λ s n. lt-leb (r .east .0) (e .end .lon .0) (omega arith);
+    }
+sided {r} room e (east h k) =
+    record {
+      side = true;
+      crosses = λ p m. east-counts e p (omega arith) (omega arith);
+      start = λ s n. le-leb (r .east .0) (e .start .lon .0) h;
+      end = λ s n. le-leb (r .east .0) (e .end .lon .0) k;
+    }
+sided {r} room e (south h k) =
+    record {
+      side = false;
+      crosses = λ p m. below-none e p (omega arith) (omega arith);
+      start = λ s n. absurd (omega arith);
+      end = λ s n. absurd (omega arith);
+    }
+sided {r} room e (north h k) =
+    record {
+      side = false;
+      crosses = λ p m. above-none e p (omega arith) (omega arith);
+      start = λ s n. absurd (omega arith);
+      end = λ s n. absurd (omega arith);
+    }
+sided room e (onLeft l) = left-sided room (e .start) (e .end) l
+sided room e (onRight l) = turned (left-sided room (e .end) (e .start) l)
+
+module _ {r : Rectangle} {p q : Point} (in-p : Lies r p) (in-q : Lies r q) where
+  -- A corner beyond the east side with a latitude between those of two points
+  abbrev between : Point → Bool
+  between v = beyondEast r v && differ (low v p) (low v q)
+
+  -- It tells its side
+  between-side : (v : Point) (k : Bool) → (r .south .0 < v .lat .0 → v .lat .0 < r .north .0 → beyondEast r v ≡ k)
+      → between v ≡ (k && differ (low v p) (low v q))
+  between-side v k h = case (low v p) (low v q) refl refl
+    where
+      case : (a b : Bool) → low v p ≡ a → low v q ≡ b → (beyondEast r v && differ a b) ≡ (k && differ a b)
+      case true true x y = and-false (beyondEast r v) ∙ sym (and-false k)
+      case true false x y =
+          let above : q .lat .0 < v .lat .0 = leb-false (v .lat .0) (q .lat .0) y in
+          let below : v .lat .0 ≤ p .lat .0 = leb-true (v .lat .0) (p .lat .0) x in
+          ap (λ (t : Bool). t && true) (h (omega arith) (omega arith))
+      case false true x y =
+          let above : p .lat .0 < v .lat .0 = leb-false (v .lat .0) (p .lat .0) x in
+          let below : v .lat .0 ≤ q .lat .0 = leb-true (v .lat .0) (q .lat .0) y in
+          ap (λ (t : Bool). t && true) (h (omega arith) (omega arith))
+      case false false x y = and-false (beyondEast r v) ∙ sym (and-false k)
+
+  -- An edge that misses the rectangle is counted for one of the two points where one of its ends is such
+  tells : (e : Edge) → Missed e r → differ (crossesEast p e) (crossesEast q e) ≡ differ (between (e .start)) (between (e .end))
+  tells e m =
+      let s : Sided e r = sided (omega arith) e m in
+      ap₂ differ (s .crosses p in-p) (s .crosses q in-q)
+      ∙ four (s .side) (low (e .start) p) (low (e .end) p) (low (e .start) q) (low (e .end) q)
+      ∙ sym (ap₂ differ (between-side (e .start) (s .side) (s .start)) (between-side (e .end) (s .side) (s .end)))
+    where
+      four : (k a b c d : Bool) → differ (k && differ a b) (k && differ c d) ≡ differ (k && differ a c) (k && differ b d)
+      four true a b c d = exchange a b c d
+      four false a b c d = refl
+
+  all-tell : (es : List Edge) → unmet r es ≡ true
+      → Each (λ (e : Edge). differ (crossesEast p e) (crossesEast q e) ≡ differ (between (e .start)) (between (e .end))) es
+  all-tell [] t = tt
+  all-tell (e ∷ es) t = let ts = both (misses e r) (unmet r es) t in (tells e (missed e r (ts .0)), all-tell es (ts .1))
+
+  -- The odd count is the same at any two points of a rectangle that no edge meets, its east and north sides left out
+  pub same-inside : (corners : List Point) → unmet r (edgesOf corners) ≡ true
+      → pointInside p (edgesOf corners) ≡ pointInside q (edgesOf corners)
+  same-inside corners t =
+      let es : List Edge = edgesOf corners in
+      inside-odd p es
+      ∙ differ-none (oddly (crossesEast p) es) (oddly (crossesEast q) es)
+      (sym (odd-differ (crossesEast p) (crossesEast q) es)
+      ∙ even-around (λ (e : Edge). differ (crossesEast p e) (crossesEast q e)) between corners (all-tell es t))
+      ∙ sym (inside-odd q es)
