@@ -1,3 +1,4 @@
 pub mod Boundary
 pub mod Products
 pub mod Walk
+pub mod Insert
