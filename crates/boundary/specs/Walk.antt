@@ -28,6 +28,11 @@ pub record Sums {M : Type 0} (op : M → M → M) (unit : M) : Type 0 where
   pub comm : (x y : M) → op x y ≡ op y x
   pub none : (x : M) → op unit x ≡ x
 
+-- Two truths in one
+pub both : (a b : Bool) → (a && b) ≡ true → (a ≡ true) × (b ≡ true)
+both true b t = (refl, t)
+both false b t = absurd (false≢true t)
+
 -- Ends of an edge of no length are one point
 pub one-point : (e : Edge) → noLength e ≡ true → e .start ≡ e .end
 one-point e h =
@@ -35,10 +40,6 @@ one-point e h =
     let lat = eqb-true (e .start .lat .0) (e .end .lat .0) (ts .0) in
     let lon = eqb-true (e .start .lon .0) (e .end .lon .0) (ts .1) in
     λ i. record { lat = record { 0 = lat i }; lon = record { 0 = lon i } }
-  where
-    both : (a b : Bool) → (a && b) ≡ true → (a ≡ true) × (b ≡ true)
-    both true b t = (refl, t)
-    both false b t = absurd (false≢true t)
 
 module _ {M : Type 0} (_·_ : M → M → M) (unit : M) (g : Edge → M) where
   infixl 70 _·_
