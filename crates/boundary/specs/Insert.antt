@@ -471,3 +471,7 @@ misses-set r room a p b on = same-truth parts whole
     whole t =
         let ts = both (misses (edge a p) r) (misses (edge p b) r) t in
         misses-tells a b r (whole-misses room on (misses-told a p r (ts .0)) (misses-told p b r (ts .1)))
+
+-- An edge of no length misses everything
+pub misses-one-point : (r : Rectangle) (a : Point) → misses (edge a a) r ≡ true
+misses-one-point r a = misses-tells a a r (misses-point a r)

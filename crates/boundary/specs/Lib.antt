@@ -2,3 +2,4 @@ pub mod Boundary
 pub mod Products
 pub mod Walk
 pub mod Insert
+pub mod Changes
