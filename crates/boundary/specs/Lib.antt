@@ -8,3 +8,6 @@ pub mod Odd
 pub mod Parity
 pub mod Inner
 pub mod Apart
+pub mod Walk
+pub mod Insert
+pub mod Changes
