@@ -1,4 +1,5 @@
 pub mod Boundary
+pub mod Corners
 pub mod Products
 pub mod Signs
 pub mod Extreme

@@ -17,7 +17,8 @@ use Rattle.code.specs.Location.{bitsOf, angleIn, paired, latters, locationOf}
 use Rattle.code.specs.Code.{valuesOf, codeOf, rectangleOf, fieldsFrom, letterChecks, Told, reading}
 use Rattle.unit.specs.declared.Kind.{Kind}
 use Rattle.unit.specs.declared.Kind.the-variants.{Building, Other}
-use Rattle.unit.specs.Extents.{cornersOf, extremesOf}
+use Rattle.boundary.specs.Corners.{cornersOf}
+use Rattle.unit.specs.Extents.{extremesOf}
 use Rattle.unit.specs.Chosen.{choose}
 use Rattle.unit.specs.Unit.{scaleOf, fieldsOf, cornerChecks, coding}
 

@@ -1,15 +1,9 @@
--- The corners of a unit and its extents (document 01, "Replies" and "Scale"). Assumes nothing.
+-- The extents of a unit (document 01, "Replies" and "Scale"). Assumes nothing.
 use Prim.Native.Nat.{ℕ, _-_, min, max}
 use mathlib.Core.List.{List, [], _∷_, map}
 use Rattle.ground.specs.declared.Point.{Point}
 use Rattle.ground.specs.declared.Rectangle.{Rectangle}
 use Rattle.ground.specs.Levels.{lat, lon}
-
--- Latitude, longitude alternate; a last number without a partner makes no corner
-unfoldable pub cornersOf : List ℕ → List Point
-cornersOf [] = []
-cornersOf (a ∷ []) = []
-cornersOf (a ∷ o ∷ rest) = record { lat = lat a; lon = lon o } ∷ cornersOf rest
 
 -- The least and the greatest of some angles, 0 where there are none
 abbrev pub leastFrom : ℕ → List ℕ → ℕ

@@ -18,7 +18,8 @@ use Rattle.unit.specs.declared.Kind.{Kind}
 use Rattle.unit.specs.declared.Kind.the-variants.{Building, Other}
 use Rattle.unit.specs.declared.Choice.{Choice}
 use Rattle.unit.specs.declared.Choice.the-variants.{At, Nowhere}
-use Rattle.unit.specs.Extents.{cornersOf, extremesOf, latExtent, lonExtent, spanOf}
+use Rattle.boundary.specs.Corners.{cornersOf}
+use Rattle.unit.specs.Extents.{extremesOf, latExtent, lonExtent, spanOf}
 use Rattle.unit.specs.Chosen.{choose}
 
 -- The finest of the level 9 + n and those below it whose nominal size times 32 is greater than a span
