@@ -68,11 +68,11 @@ module _ {A : Type 0} (f : List Point → A) (kept : Kept f) where
   kept-ground (undoing c g) = sym (kept-change c) ∙ kept-ground g
 
 -- Missing, for all edges
-and-sums : Sums _&&_ true
+pub and-sums : Sums _&&_ true
 and-sums = record { assoc = and-assoc; comm = and-comm; none = λ x. refl }
 
 module _ (r : Rectangle) where
-  unmet-total : (es : List Edge) → unmet r es ≡ total _&&_ true (λ e. misses e r) es
+  pub unmet-total : (es : List Edge) → unmet r es ≡ total _&&_ true (λ e. misses e r) es
   unmet-total [] = refl
   unmet-total (e ∷ es) = ap (λ (x : Bool). misses e r && x) (unmet-total es)
 
@@ -90,7 +90,7 @@ module _ (r : Rectangle) where
       unmet-total (edgesOf cs) ∙ kept-ground (around _&&_ true (λ e. misses e r)) (unmet-kept room) g ∙ sym (unmet-total (edgesOf ds))
 
 -- Odd counts
-differ-sums : Sums differ false
+pub differ-sums : Sums differ false
 differ-sums = record { assoc = assoc; comm = comm; none = λ x. refl }
   where
     assoc : (x y z : Bool) → differ (differ x y) z ≡ differ x (differ y z)
@@ -107,7 +107,7 @@ differ-sums = record { assoc = assoc; comm = comm; none = λ x. refl }
 
 module _ (q : Point) where
   -- An edge of no length crosses nothing
-  crosses-one-point : (a : Point) → crossesEast q (edge a a) ≡ false
+  pub crosses-one-point : (a : Point) → crossesEast q (edge a a) ≡ false
   unfolding crossesEast
   crosses-one-point a = at (leb (a .lat .0) (q .lat .0))
     where
@@ -115,7 +115,7 @@ module _ (q : Point) where
       at true = refl
       at false = refl
 
-  odd-total : (es : List Edge) → pointInside q es ≡ total differ false (crossesEast q) es
+  pub odd-total : (es : List Edge) → pointInside q es ≡ total differ false (crossesEast q) es
   odd-total [] = refl
   odd-total (e ∷ es) = one-more (crossesEast q e) (countEast q es) ∙ ap (differ (crossesEast q e)) (odd-total es)
     where

@@ -34,7 +34,7 @@ corners-from (a ∷ o ∷ rest) zero h = refl
 corners-from (a ∷ o ∷ rest) (suc i) h =
     corners-from rest i (omega arith)
     ∙ ap₂ (λ (y x : ℕ). record { lat = lat y; lon = lon x } ∷ drop (suc i) (cornersOf rest)) (later (2 * suc i) (2 * i) (omega arith))
-      (later (2 * suc i + 1) (2 * i + 1) (omega arith))
+    (later (2 * suc i + 1) (2 * i + 1) (omega arith))
   where
     later : (m n : ℕ) → m ≡ suc (suc n) → getD rest n 0 ≡ getD (a ∷ o ∷ rest) m 0
     later m n e = sym (ap (λ (k : ℕ). getD (a ∷ o ∷ rest) k 0) e)

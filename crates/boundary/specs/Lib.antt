@@ -12,3 +12,4 @@ pub mod Apart
 pub mod Walk
 pub mod Insert
 pub mod Changes
+pub mod Loops

@@ -44,7 +44,7 @@ one-point e h =
 module _ {M : Type 0} (_·_ : M → M → M) (unit : M) (g : Edge → M) where
   infixl 70 _·_
   -- The sum of a way from one corner through others to an end
-  way : Point → Point → List Point → M
+  unfoldable pub way : Point → Point → List Point → M
   way end a [] = g (edge a end)
   way end a (b ∷ cs) = g (edge a b) · way end b cs
 
@@ -71,7 +71,7 @@ module _ {M : Type 0} (_·_ : M → M → M) (unit : M) (g : Edge → M) where
     total-joined end a (b ∷ cs) = ap (λ (x : M). g (edge a b) · x) (total-joined end b cs)
 
     -- The sum over a boundary is the sum of the way from its first corner through the others back
-    around-way : (c : Point) (cs : List Point) → around (c ∷ cs) ≡ way c c cs
+    pub around-way : (c : Point) (cs : List Point) → around (c ∷ cs) ≡ way c c cs
     unfolding edgesOf
     around-way c cs = total-with-length (joined c c cs) ∙ total-joined c c cs
 
