@@ -1,13 +1,12 @@
 -- The laws of a cell's sides, for the level and the direction as parameters, and of the location cell within it. Assumes nothing.
-use Prim.Native.Nat.{ℕ, zero, suc, _+_, _-_, _*_, _/_, _%_, _≤_, _<_, _∣_, min}
+use Prim.Native.Nat.{ℕ, _+_, _-_, _*_, _/_, _%_, _≤_, _<_, _∣_, min}
 use native.Mathlib.Nat.{dvd-add, dvd-sub, dvd-mul-left-of-dvd, dvd-of-mod-eq-zero, mod-eq-zero-of-dvd, le-of-dvd, lt-div-mul-add}
 use native.Mathlib.Omega.{arith}
-use mathlib.Core.Path.{_≡_, refl, subst, sym}
+use mathlib.Core.Path.{_≡_, refl, subst}
 use mathlib.Core.Logic.{_≢_}
 use mathlib.Core.Bool.{Bool, true, false, cond}
 use lib.Dec.{leb, eqb}
-use borrow.Author.Tests.{leb-true, leb-false, eqb-true, eqb-false}
-use Rattle.ground.specs.declared.Rectangle.{Rectangle}
+use borrow.Author.Tests.{leb-true, leb-false, eqb-false}
 use Rattle.ground.specs.declared.Cell.{Cell}
 use Rattle.ground.specs.Levels.{lat, lon, degree, minute, sizeOf}
 use Rattle.ground.specs.Sizes.{size-least, size-whole, size-even}
