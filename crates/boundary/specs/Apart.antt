@@ -1,11 +1,11 @@
 -- A point that every corner lies east of, or west, north or south of it, is not inside. Assumes nothing.
-use Prim.Native.Nat.{ℕ, _≤_, _<_}
-use mathlib.Core.Path.{_≡_, refl, _∙_}
+use Prim.Native.Nat.{_≤_, _<_}
+use mathlib.Core.Path.{_≡_, _∙_}
 use mathlib.Core.Bool.{Bool, true, false, cond}
 use mathlib.Core.List.{List, [], _∷_}
 use Rattle.ground.specs.declared.Point.{Point}
 use Rattle.boundary.specs.Boundary.{Edge, joined, noLength, withLength, edgesOf, crossesEast, pointInside}
-use Rattle.boundary.specs.Odd.{differ, oddly, Each, inside-odd, even-around}
+use Rattle.boundary.specs.Odd.{differ, Each, inside-odd, even-around}
 use Rattle.boundary.specs.Parity.{low, west-none, below-none, above-none, east-counts}
 
 -- What holds of each corner, and so of both ends of an edge, holds of each edge
@@ -29,7 +29,8 @@ module _ (P : Point → Type 0) (Q : Edge → Type 0) (so : (e : Edge) → P (e 
 
 module _ (p : Point) (corners : List Point) where
   -- Where the edges that count tell their ends apart, the count is even
-  even : (P : Point → Type 0) (g : Point → Bool) → ((e : Edge) → P (e .start) → P (e .end) → crossesEast p e ≡ differ (g (e .start)) (g (e .end)))
+  even : (P : Point → Type 0) (g : Point → Bool)
+      → ((e : Edge) → P (e .start) → P (e .end) → crossesEast p e ≡ differ (g (e .start)) (g (e .end)))
       → Each P corners → pointInside p (edgesOf corners) ≡ false
   even P g so t =
       inside-odd p (edgesOf corners)

@@ -136,64 +136,65 @@ left-all a b {r} o l =
 
 module _ (e : Edge) (r : Rectangle) where
   -- The tests of the four sides, and of the two directions of the line
-  abbrev w : Bool
-  w = leb (e .start .lon .0) (r .west .0) && leb (e .end .lon .0) (r .west .0)
+  abbrev westward : Bool
+  westward = leb (e .start .lon .0) (r .west .0) && leb (e .end .lon .0) (r .west .0)
 
-  abbrev x : Bool
-  x = leb (r .east .0) (e .start .lon .0) && leb (r .east .0) (e .end .lon .0)
+  abbrev eastward : Bool
+  eastward = leb (r .east .0) (e .start .lon .0) && leb (r .east .0) (e .end .lon .0)
 
-  abbrev s : Bool
-  s = leb (e .start .lat .0) (r .south .0) && leb (e .end .lat .0) (r .south .0)
+  abbrev southward : Bool
+  southward = leb (e .start .lat .0) (r .south .0) && leb (e .end .lat .0) (r .south .0)
 
-  abbrev n : Bool
-  n = leb (r .north .0) (e .start .lat .0) && leb (r .north .0) (e .end .lat .0)
+  abbrev northward : Bool
+  northward = leb (r .north .0) (e .start .lat .0) && leb (r .north .0) (e .end .lat .0)
 
-  abbrev f : Bool
-  f = allLeft (e .start) (e .end) r
+  abbrev forward : Bool
+  forward = allLeft (e .start) (e .end) r
 
-  abbrev b : Bool
-  b = allLeft (e .end) (e .start) r
+  abbrev backward : Bool
+  backward = allLeft (e .end) (e .start) r
 
   -- What the test says of an edge
   pub missed : misses e r ≡ true → Missed e r
   unfolding misses
-  missed t = right (either (beyond e r || f) b t)
+  missed t = right (either (beyond e r || forward) backward t)
     where
-      across : (w ≡ true) ⊎ (x ≡ true) → Missed e r
+      across : (westward ≡ true) ⊎ (eastward ≡ true) → Missed e r
       across (inl h) = let t = two (e .start .lon .0) (r .west .0) (e .end .lon .0) (r .west .0) h in west (t .0) (t .1)
       across (inr h) = let t = two (r .east .0) (e .start .lon .0) (r .east .0) (e .end .lon .0) h in east (t .0) (t .1)
 
-      below : ((w || x) ≡ true) ⊎ (s ≡ true) → Missed e r
-      below (inl h) = across (either w x h)
+      below : ((westward || eastward) ≡ true) ⊎ (southward ≡ true) → Missed e r
+      below (inl h) = across (either westward eastward h)
       below (inr h) = let t = two (e .start .lat .0) (r .south .0) (e .end .lat .0) (r .south .0) h in south (t .0) (t .1)
 
-      above : ((w || x || s) ≡ true) ⊎ (n ≡ true) → Missed e r
-      above (inl h) = below (either (w || x) s h)
+      above : ((westward || eastward || southward) ≡ true) ⊎ (northward ≡ true) → Missed e r
+      above (inl h) = below (either (westward || eastward) southward h)
       above (inr h) = let t = two (r .north .0) (e .start .lat .0) (r .north .0) (e .end .lat .0) h in north (t .0) (t .1)
 
-      left : (beyond e r ≡ true) ⊎ (f ≡ true) → Missed e r
-      left (inl h) = above (either (w || x || s) n h)
+      left : (beyond e r ≡ true) ⊎ (forward ≡ true) → Missed e r
+      left (inl h) = above (either (westward || eastward || southward) northward h)
       left (inr h) = onLeft (all-left (e .start) (e .end) r h)
 
-      right : ((beyond e r || f) ≡ true) ⊎ (b ≡ true) → Missed e r
-      right (inl h) = left (either (beyond e r) f h)
+      right : ((beyond e r || forward) ≡ true) ⊎ (backward ≡ true) → Missed e r
+      right (inl h) = left (either (beyond e r) forward h)
       right (inr h) = onRight (all-left (e .end) (e .start) r h)
 
   -- and the other way, where the sides are in order
   pub misses-so : Ordered r → Missed e r → misses e r ≡ true
   unfolding misses
-  misses-so o (west h k) = or-left b (or-left f (or-left n (or-left s (or-left x (two-back h k)))))
-  misses-so o (east h k) = or-left b (or-left f (or-left n (or-left s (or-right w (two-back h k)))))
-  misses-so o (south h k) = or-left b (or-left f (or-left n (or-right (w || x) (two-back h k))))
-  misses-so o (north h k) = or-left b (or-left f (or-right (w || x || s) (two-back h k)))
-  misses-so o (onLeft l) = or-left b (or-right (beyond e r) (left-all (e .start) (e .end) o l))
-  misses-so o (onRight l) = or-right (beyond e r || f) (left-all (e .end) (e .start) o l)
+  misses-so o (west h k) = or-left backward (or-left forward (or-left northward (or-left southward (or-left eastward (two-back h k)))))
+  misses-so o (east h k) = or-left backward (or-left forward (or-left northward (or-left southward (or-right westward (two-back h k)))))
+  misses-so o (south h k) = or-left backward (or-left forward (or-left northward (or-right (westward || eastward) (two-back h k))))
+  misses-so o (north h k) = or-left backward (or-left forward (or-right (westward || eastward || southward) (two-back h k)))
+  misses-so o (onLeft l) = or-left backward (or-right (beyond e r) (left-all (e .start) (e .end) o l))
+  misses-so o (onRight l) = or-right (beyond e r || forward) (left-all (e .end) (e .start) o l)
 
 module _ {r s : Rectangle} (o : Ordered r) (h : Within r s) where
   -- A point of a rectangle is one of each rectangle that it is within
   held : {p : Point} → Holds r p → Holds s p
   held k = omega arith
 
+  -- An edge that misses the outer one misses the inner one
   missed-within : {e : Edge} → Missed e s → Missed e r
   missed-within (west k l) = west (omega arith) (omega arith)
   missed-within (east k l) = east (omega arith) (omega arith)

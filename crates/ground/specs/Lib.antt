@@ -2,3 +2,4 @@ pub mod Levels
 pub mod Sizes
 pub mod Cells
 pub mod CellTest
+pub mod CellLaws

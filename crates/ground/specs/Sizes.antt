@@ -6,7 +6,8 @@ use mathlib.Core.Path.{_≡_, refl, subst, sym, _∙_}
 use mathlib.Core.Bool.{Bool, true, false, cond, _&&_}
 use mathlib.Core.List.{List, [], _∷_}
 use lib.Dec.{T, leb, ltb, eqb, leb→le, eqb→eq}
-use lib.ListN.{length, getD}
+use lib.ListN.{length, getD, take}
+use lib.Seq.{getD-take}
 use borrow.Author.Tests.{le-ltb}
 use Rattle.ground.specs.Levels.{degree, sizes, sizeOf}
 
@@ -44,3 +45,11 @@ module _ (level : ℕ) (low : 9 ≤ level) (high : level ≤ 27) where
   -- and a multiple of 32
   pub size-whole : sizeOf level % 32 ≡ 0
   size-whole = eqb→eq (sizeOf level % 32) 0 (at-level (λ s. eqb (s % 32) 0) tt level low high)
+
+-- and of 64 at each level before 27
+pub size-even : (level : ℕ) → 9 ≤ level → level ≤ 26 → sizeOf level % 64 ≡ 0
+unfolding sizeOf
+size-even level low high =
+    let i : level - 9 < 18 = omega arith in
+    rw (le-ltb level 9 low, ← getD-take 18 sizes (level - 9) 0 i)
+    (eqb→eq (getD (take 18 sizes) (level - 9) 0 % 64) 0 (at (λ s. eqb (s % 64) 0) (take 18 sizes) tt (level - 9) i))
