@@ -8,7 +8,11 @@ use mathlib.Core.List.{List, [], _∷_}
 use lib.ListN.{length, drop, drop-of-length-le}
 use Rattle.ground.specs.declared.Point.{Point}
 use Rattle.ground.specs.declared.Rectangle.{Rectangle}
-use Rattle.boundary.specs.Boundary.{Edge, edgesOf, misses, unmet, crossesEast, pointInside}
+use Rattle.ground.specs.declared.Cell.{Cell}
+use Rattle.ground.specs.declared.cells.Sides.the-variants.{Of}
+use Rattle.ground.specs.Cells.{sidesOf, centreOf}
+use Rattle.ground.specs.CellTest.{isCell, sidesFound, found-of}
+use Rattle.boundary.specs.Boundary.{Edge, edgesOf, misses, unmet, crossesEast, pointInside, inside}
 use Rattle.boundary.specs.Corners.{cornersOf, cornerAt, corners-length, corners-from}
 use Rattle.boundary.specs.Walk.{edge, Sums, way, around-way}
 use Rattle.boundary.specs.Insert.{differ, misses-one-point}
@@ -74,3 +78,12 @@ unmet-way r c cs = unmet-total r (edgesOf (c ∷ cs)) ∙ around-way _&&_ true (
 
 pub odd-way : (q : Point) (c : Point) (cs : List Point) → pointInside q (edgesOf (c ∷ cs)) ≡ way differ false (crossesEast q) c c cs
 odd-way q c cs = odd-total q (edgesOf (c ∷ cs)) ∙ around-way differ false (crossesEast q) differ-sums (crosses-one-point q) c cs
+
+-- A cell is inside when no edge meets the sides found and their centre is inside
+pub inside-found : (corners : List Point) (c : Cell) (r : Rectangle) → Of r ≡ sidesFound c
+    → (unmet r (edgesOf corners) && pointInside (centreOf r) (edgesOf corners)) ≡ (isCell c && inside corners c)
+unfolding inside
+inside-found corners c r e =
+    let found = found-of c r e in
+    ap (λ (s : Rectangle). unmet s (edgesOf corners) && pointInside (centreOf s) (edgesOf corners)) (found .1)
+    ∙ ap (λ (t : Bool). t && (unmet (sidesOf c) (edgesOf corners) && pointInside (centreOf (sidesOf c)) (edgesOf corners))) (sym (found .0))

@@ -5,6 +5,7 @@ use mathlib.Core.Path.{_≡_, refl}
 use mathlib.Core.Bool.{Bool, true, false, cond, _&&_, false≢true}
 use lib.Dec.{leb, eqb}
 use borrow.Author.Tests.{leb-true}
+use Rattle.ground.specs.declared.Rectangle.{Rectangle}
 use Rattle.ground.specs.declared.Cell.{Cell}
 use Rattle.ground.specs.declared.cells.Sides.{Sides}
 use Rattle.ground.specs.declared.cells.Sides.the-variants.{Of, NoCell}
@@ -43,3 +44,21 @@ side-below level a end low high e = at (eqb (lowSide level a) a) (leb (highSide 
     at true true k h = omega (arith, low-below-high level a low high, leb-true (highSide level a) end k)
     at true false k h = absurd (false≢true h)
     at false u k h = absurd (false≢true h)
+
+-- Where sides are found there is a cell, and they are its own
+pub found-of : (c : Cell) (r : Rectangle) → Of r ≡ sidesFound c → (isCell c ≡ true) × (r ≡ sidesOf c)
+unfolding sidesFound
+found-of c r e = at (isCell c) e
+  where
+    at : (t : Bool) → Of r ≡ cond t (Of (sidesOf c)) NoCell → (t ≡ true) × (r ≡ sidesOf c)
+    at true k = (refl, cc)
+    at false k = let none : _≡_ {A = ℕ} 0 1 = cc in absurd (omega arith)
+
+-- Where none are found there is none
+pub found-none : (c : Cell) → NoCell ≡ sidesFound c → isCell c ≡ false
+unfolding sidesFound
+found-none c e = at (isCell c) e
+  where
+    at : (t : Bool) → NoCell ≡ cond t (Of (sidesOf c)) NoCell → t ≡ false
+    at true k = let none : _≡_ {A = ℕ} 0 1 = cc in absurd (omega arith)
+    at false k = refl
