@@ -1,3 +1,4 @@
 pub mod Extents
 pub mod Chosen
 pub mod Unit
+pub mod SameGround
