@@ -2,10 +2,10 @@
 -- all lists of corners of one ground. Assumes nothing.
 use Prim.Native.Nat.{ℕ, zero, suc, _+_, _%_, _/_, _≤_, _<_, min, max}
 use native.Mathlib.Omega.{arith}
-use mathlib.Core.Path.{_≡_, refl, ap, ap₂, _∙_, sym, fun-ext}
+use mathlib.Core.Path.{_≡_, refl, ap, ap₂, _∙_, sym, subst}
 use mathlib.Core.Bool.{Bool, true, false, cond, _||_, or-assoc, or-false, or-true}
 use mathlib.Core.List.{List, [], _∷_, _++_, map, reverse, reverse-cons}
-use lib.Dec.{eqb, ltb, leb·suc-suc}
+use lib.Dec.{T, eqb, ltb, leb·suc-suc}
 use lib.ListN.{length, drop}
 use borrow.Author.Tests.{ltb-true, ltb-false, lt-ltb, le-ltb}
 use Rattle.replies.specs.Replies.{Check, check, check-at, run}
@@ -14,16 +14,17 @@ use Rattle.ground.specs.declared.Point.{Point}
 use Rattle.ground.specs.declared.Rectangle.{Rectangle}
 use Rattle.ground.specs.declared.Cell.{Cell}
 use Rattle.ground.specs.Levels.{lat, lon, latEnd, lonEnd}
+use Rattle.ground.specs.Cells.{IsCell}
 use Rattle.boundary.specs.Boundary.{inside}
 use Rattle.boundary.specs.Walk.{next}
-use Rattle.boundary.specs.Insert.{Between, OnEdge, same-truth}
+use Rattle.boundary.specs.Insert.{Between, OnEdge}
 use Rattle.boundary.specs.Changes.{SameGround, Kept, kept-ground, inside-same}
 use Rattle.code.specs.Code.{outside}
 use Rattle.unit.specs.declared.Kind.{Kind}
 use Rattle.unit.specs.declared.Choice.{Choice}
 use Rattle.unit.specs.declared.Choice.the-variants.{At, Nowhere}
 use Rattle.unit.specs.Extents.{cornersOf, leastFrom, greatestFrom, least, greatest, extremesOf, latExtent, lonExtent}
-use Rattle.unit.specs.Chosen.{sidesOver, orElse, firstAmong, countUp, tried, choose}
+use Rattle.unit.specs.Chosen.{Chosen, sidesOver, orElse, firstAmong, countUp, tried, choose}
 use Rattle.unit.specs.Unit.{aboveRange, badNumber, noCell, spanAbove, codeAt, cornerChecks, codeChecks, coding}
 
 -- The least or the greatest of a number and the angles of some corners, by an operation and in a direction
@@ -165,6 +166,17 @@ choose-same {cs} {ds} g =
         ap
         (λ (try : ℕ → ℕ → Choice). firstAmong (λ west. firstAmong (try west) (sidesOver level (r .south .0) (r .north .0))) (sidesOver level (r .west .0) (r .east .0)))
         same
+
+-- and so is the cell that document 01 says is chosen
+pub chosen-same : {cs ds : List Point} {c : Cell} → SameGround cs ds → Chosen cs c → Chosen ds c
+chosen-same {cs} {ds} {c} g chosen = record {
+  cell = chosen .cell;
+  within = subst T (same c (chosen .cell)) (chosen .within);
+  first = λ d cell t. chosen .first d cell (subst T (sym (same d cell)) t);
+}
+  where
+    same : (d : Cell) → IsCell d → inside cs d ≡ inside ds d
+    same d cell = inside-same g d (cell .coarsest) (cell .finest)
 
 -- The code is the same for all of one ground
 pub code-same : {cs ds : List Point} → SameGround cs ds → (number : ℕ)
