@@ -1,13 +1,17 @@
--- A point on an edge: the sides of the edge are those of its two parts, and its odd count is that of the two together. Assumes nothing.
+-- A point on an edge: the sides of the edge are those of its two parts, and its odd count is that of the two together; and an
+-- edge of no length. Assumes nothing.
 use Prim.Native.Nat.{ℕ, _+_, _*_, _≤_, _<_, min, max}
 use native.Mathlib.Omega.{arith}
 use mathlib.Core.Path.{_≡_, refl, ap, ap₂, _∙_, sym}
 use mathlib.Core.Logic.{_⊎_, inl, inr}
 use mathlib.Core.Bool.{Bool, true, false, not, _&&_, _||_, or-comm}
 use lib.Dec.{leb, ltb}
-use borrow.Author.Tests.{leb-true, leb-false, ltb-true, lt-ltb}
+use borrow.Author.Tests.{leb-true, leb-false, ltb-true, lt-ltb, le-leb}
+use Rattle.ground.specs.declared.Lat.{Lat}
+use Rattle.ground.specs.declared.Lon.{Lon}
 use Rattle.ground.specs.declared.Point.{Point}
-use Rattle.boundary.specs.Boundary.{leftSum, rightSum, left, crossesEast}
+use Rattle.ground.specs.declared.Rectangle.{Rectangle}
+use Rattle.boundary.specs.Boundary.{leftSum, rightSum, left, leftOrOn, allLeft, beyond, misses, crossesEast}
 use Rattle.boundary.specs.Products.{product-le, product-lt, either-way}
 use Rattle.boundary.specs.Walk.{edge}
 
@@ -195,3 +199,24 @@ crosses-set q a p b on = at (low a) (low p) (low b) refl refl refl
     at false true false ea ep eb = let none : ⊥ = omega (arith, high-of a ea, low-of p ep, high-of b eb, on .lat) in absurd none
     at false false true ea ep eb = same-left b p a back (λ e. omega (arith, high-of p ep, low-of b eb)) q
     at false false false ea ep eb = refl
+
+-- An edge of no length misses everything
+pub misses-one-point : (r : Rectangle) (a : Point) → misses (edge a a) r ≡ true
+unfolding misses leftOrOn
+misses-one-point r a = at (beyond (edge a a) r)
+  where
+    on : (q : Point) → leftOrOn a a q ≡ true
+    on q = le-leb (rightSum a a q) (leftSum a a q) (omega arith)
+
+    corner : Lat → Lon → Point
+    corner y x = record { lat = y; lon = x }
+
+    all : allLeft a a r ≡ true
+    all =
+        ap₂ _&&_
+        (ap₂ _&&_ (ap₂ _&&_ (on (corner (r .south) (r .west))) (on (corner (r .south) (r .east)))) (on (corner (r .north) (r .west))))
+        (on (corner (r .north) (r .east)))
+
+    at : (i : Bool) → (i || allLeft a a r || allLeft a a r) ≡ true
+    at true = refl
+    at false = ap (λ (t : Bool). t || allLeft a a r) all

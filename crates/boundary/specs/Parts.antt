@@ -168,13 +168,6 @@ pub misses-other-way : (r : Rectangle) (a b : Point) → misses (edge a b) r ≡
 misses-other-way r a b =
     same-truth (λ t. misses-tells b a r (misses-back (misses-told a b r t))) (λ t. misses-tells a b r (misses-back (misses-told b a r t)))
 
--- An edge of no length misses everything
-misses-point : (a : Point) (r : Rectangle) → Misses a a r
-misses-point a r = all-left (λ i j. omega arith)
-
-pub misses-one-point : (r : Rectangle) (a : Point) → misses (edge a a) r ≡ true
-misses-one-point r a = misses-tells a a r (misses-point a r)
-
 -- Two points are apart or one
 apart-or-one : (a p : Point) → Apart a p ⊎ (a ≡ p)
 apart-or-one a p = at (eqb (a .lat .0) (p .lat .0)) (eqb (a .lon .0) (p .lon .0)) refl refl
@@ -189,7 +182,7 @@ part-misses : {a p b : Point} {r : Rectangle} → OnEdge a p b → Misses a b r 
 part-misses {a} {p} {b} {r} on m = at (apart-or-one a p) m
   where
     at : Apart a p ⊎ (a ≡ p) → Misses a b r → Misses a p r
-    at (inr e) m = subst (λ (x : Point). Misses a x r) e (misses-point a r)
+    at (inr e) m = subst (λ (x : Point). Misses a x r) e (all-left (λ i j. omega arith))
     at (inl apart) (beyond-side (west h k)) = beyond-side (west h (omega (arith, on .lon)))
     at (inl apart) (beyond-side (east h k)) = beyond-side (east h (omega (arith, on .lon)))
     at (inl apart) (beyond-side (south h k)) = beyond-side (south h (omega (arith, on .lat)))
