@@ -15,7 +15,8 @@ use Rattle.ground.specs.Sizes.{size-least}
 use Rattle.ground.specs.Cells.{afresh, highSide, sidesOf, centreOf}
 use Rattle.boundary.specs.Boundary.{Edge, edgesOf, misses, crossesEast, left, countEast, pointInside, unmet, inside}
 use Rattle.boundary.specs.Walk.{edge, next, total, Sums, around, around-next, around-reverse, around-set}
-use Rattle.boundary.specs.Insert.{OnEdge, on-start, Room, differ, crosses-other-way, crosses-set, misses-other-way, misses-set, misses-one-point}
+use Rattle.boundary.specs.Insert.{OnEdge, on-start, differ, crosses-other-way, crosses-set, misses-one-point}
+use Rattle.boundary.specs.Parts.{Room, misses-other-way, misses-set}
 
 -- A change of a list of corners
 pub data Change : List Point → List Point → Type 0 where

@@ -11,5 +11,6 @@ pub mod Inner
 pub mod Apart
 pub mod Walk
 pub mod Insert
+pub mod Parts
 pub mod Changes
 pub mod Loops

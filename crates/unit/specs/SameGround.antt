@@ -1,0 +1,285 @@
+-- Coding keeps to the ground (the mission's demand 3): extents, chosen cell, every refusal number from 4 on and the code are the same for
+-- all lists of corners of one ground. Assumes nothing.
+use Prim.Native.Nat.{ℕ, zero, suc, _+_, _%_, _/_, _≤_, _<_, min, max}
+use native.Mathlib.Omega.{arith}
+use mathlib.Core.Path.{_≡_, refl, ap, ap₂, _∙_, sym, subst}
+use mathlib.Core.Bool.{Bool, true, false, cond, _||_, or-assoc, or-false, or-true}
+use mathlib.Core.List.{List, [], _∷_, _++_, map, reverse, reverse-cons}
+use lib.Dec.{T, eqb, ltb, leb·suc-suc}
+use lib.ListN.{length, drop}
+use borrow.Author.Tests.{ltb-true, ltb-false, lt-ltb, le-ltb}
+use Rattle.replies.specs.Replies.{Check, check, check-at, run}
+use Rattle.replies.specs.Places.{firstPlace}
+use Rattle.ground.specs.declared.Point.{Point}
+use Rattle.ground.specs.declared.Rectangle.{Rectangle}
+use Rattle.ground.specs.declared.Cell.{Cell}
+use Rattle.ground.specs.Levels.{lat, lon, latEnd, lonEnd}
+use Rattle.ground.specs.Cells.{IsCell}
+use Rattle.boundary.specs.Boundary.{inside}
+use Rattle.boundary.specs.Walk.{next}
+use Rattle.boundary.specs.Insert.{Between, OnEdge}
+use Rattle.boundary.specs.Changes.{SameGround, Kept, kept-ground, inside-same}
+use Rattle.code.specs.Code.{outside}
+use Rattle.unit.specs.declared.Kind.{Kind}
+use Rattle.unit.specs.declared.Choice.{Choice}
+use Rattle.unit.specs.declared.Choice.the-variants.{At, Nowhere}
+use Rattle.unit.specs.Extents.{cornersOf, leastFrom, greatestFrom, least, greatest, extremesOf, latExtent, lonExtent}
+use Rattle.unit.specs.Chosen.{Chosen, sidesOver, orElse, firstAmong, countUp, tried, choose}
+use Rattle.unit.specs.Unit.{aboveRange, badNumber, noCell, spanAbove, codeAt, cornerChecks, codeChecks, coding}
+
+-- The least or the greatest of a number and the angles of some corners, by an operation and in a direction
+abbrev over : (ℕ → ℕ → ℕ) → (Point → ℕ) → ℕ → List Point → ℕ
+over op dir x [] = x
+over op dir x (p ∷ ps) = over op dir (op x (dir p)) ps
+
+-- 0 where there are none
+abbrev extreme : (ℕ → ℕ → ℕ) → (Point → ℕ) → List Point → ℕ
+extreme op dir [] = 0
+extreme op dir (p ∷ ps) = over op dir (dir p) ps
+
+-- What least and greatest have in common
+record Extreme (op : ℕ → ℕ → ℕ) : Type 0 where
+  assoc : (x y z : ℕ) → op (op x y) z ≡ op x (op y z)
+  comm : (x y : ℕ) → op x y ≡ op y x
+  alone : (x y : ℕ) → Between x y x → x ≡ op x y
+  between : (x y z : ℕ) → Between x y z → op x z ≡ op (op x y) z
+
+least-extreme : Extreme min
+least-extreme = record {
+  assoc = λ x y z. omega arith;
+  comm = λ x y. omega arith;
+  alone = λ x y h. omega arith;
+  between = λ x y z h. omega arith;
+}
+
+greatest-extreme : Extreme max
+greatest-extreme = record {
+  assoc = λ x y z. omega arith;
+  comm = λ x y. omega arith;
+  alone = λ x y h. omega arith;
+  between = λ x y z h. omega arith;
+}
+
+module _ (op : ℕ → ℕ → ℕ) (laws : Extreme op) (dir : Point → ℕ) where
+  over-first : (x y : ℕ) (ps : List Point) → over op dir (op x y) ps ≡ op (over op dir x ps) y
+  over-first x y [] = refl
+  over-first x y (p ∷ ps) =
+      ap (λ (n : ℕ). over op dir n ps) (laws .assoc x y (dir p) ∙ ap (op x) (laws .comm y (dir p)) ∙ sym (laws .assoc x (dir p) y))
+      ∙ over-first (op x (dir p)) y ps
+
+  over-last : (x : ℕ) (ps : List Point) (p : Point) → over op dir x (ps ++ (p ∷ [])) ≡ op (over op dir x ps) (dir p)
+  over-last x [] p = refl
+  over-last x (q ∷ ps) p = over-last (op x (dir q)) ps p
+
+  over-reverse : (x : ℕ) (ps : List Point) → over op dir x ps ≡ over op dir x (reverse ps)
+  over-reverse x [] = refl
+  over-reverse x (p ∷ ps) =
+      over-first x (dir p) ps ∙ ap (λ (n : ℕ). op n (dir p)) (over-reverse x ps) ∙ sym (over-last x (reverse ps) p)
+      ∙ ap (over op dir x) (sym (reverse-cons p ps))
+
+  extreme-started : (c : Point) (cs : List Point) → extreme op dir (c ∷ cs) ≡ extreme op dir (cs ++ (c ∷ []))
+  extreme-started c [] = refl
+  extreme-started c (d ∷ ds) =
+      ap (λ (n : ℕ). over op dir n ds) (laws .comm (dir c) (dir d)) ∙ over-first (dir d) (dir c) ds ∙ sym (over-last (dir d) ds c)
+
+  -- Least and greatest angles are kept
+  extreme-kept : ((a p b : Point) → OnEdge a p b → Between (dir a) (dir p) (dir b)) → Kept (extreme op dir)
+  extreme-kept on-between = record { started = extreme-started; turned = turned; set = set }
+    where
+      turned : (cs : List Point) → extreme op dir cs ≡ extreme op dir (reverse cs)
+      turned [] = refl
+      turned (c ∷ cs) =
+          over-reverse (dir c) cs ∙ extreme-started c (reverse cs) ∙ ap (extreme op dir) (sym (reverse-cons c cs))
+
+      set : (a p : Point) (cs : List Point) → OnEdge a p (next a cs) → extreme op dir (a ∷ cs) ≡ extreme op dir (a ∷ p ∷ cs)
+      set a p [] on = laws .alone (dir a) (dir p) (on-between a p a on)
+      set a p (b ∷ cs) on = ap (λ (n : ℕ). over op dir n cs) (laws .between (dir a) (dir p) (dir b) (on-between a p b on))
+
+module _ (dir : Point → ℕ) where
+  least-over : (x : ℕ) (ps : List Point) → leastFrom x (map dir ps) ≡ over min dir x ps
+  least-over x [] = refl
+  least-over x (p ∷ ps) = least-over (min x (dir p)) ps
+
+  least-is : (cs : List Point) → least (map dir cs) ≡ extreme min dir cs
+  least-is [] = refl
+  least-is (c ∷ cs) = least-over (dir c) cs
+
+  greatest-over : (x : ℕ) (ps : List Point) → greatestFrom x (map dir ps) ≡ over max dir x ps
+  greatest-over x [] = refl
+  greatest-over x (p ∷ ps) = greatest-over (max x (dir p)) ps
+
+  greatest-is : (cs : List Point) → greatest (map dir cs) ≡ extreme max dir cs
+  greatest-is [] = refl
+  greatest-is (c ∷ cs) = greatest-over (dir c) cs
+
+  module _ (on-between : (a p b : Point) → OnEdge a p b → Between (dir a) (dir p) (dir b)) {cs ds : List Point} (g : SameGround cs ds) where
+    least-same : least (map dir cs) ≡ least (map dir ds)
+    least-same =
+        least-is cs ∙ kept-ground (extreme min dir) (extreme-kept min least-extreme dir on-between) g ∙ sym (least-is ds)
+
+    greatest-same : greatest (map dir cs) ≡ greatest (map dir ds)
+    greatest-same =
+        greatest-is cs ∙ kept-ground (extreme max dir) (extreme-kept max greatest-extreme dir on-between) g ∙ sym (greatest-is ds)
+
+-- Extents are the same for all of one ground
+pub extremes-same : {cs ds : List Point} → SameGround cs ds → extremesOf cs ≡ extremesOf ds
+unfolding extremesOf
+extremes-same g =
+    let on-lat : (a p b : Point) → OnEdge a p b → Between (a .lat .0) (p .lat .0) (b .lat .0) = λ a p b on. on .lat in
+    let on-lon : (a p b : Point) → OnEdge a p b → Between (a .lon .0) (p .lon .0) (b .lon .0) = λ a p b on. on .lon in
+    let west = least-same (λ p. p .lon .0) on-lon g in
+    let east = greatest-same (λ p. p .lon .0) on-lon g in
+    let south = least-same (λ p. p .lat .0) on-lat g in
+    let north = greatest-same (λ p. p .lat .0) on-lat g in
+    λ i. record { west = lon (west i); east = lon (east i); south = lat (south i); north = lat (north i) }
+
+-- Trying numbers in turn, where each try gives the same
+among-same : (n from : ℕ) {try other : ℕ → Choice} → ((x : ℕ) → from ≤ x → x < from + n → try x ≡ other x)
+    → firstAmong try (countUp n from) ≡ firstAmong other (countUp n from)
+among-same zero from same = refl
+among-same (suc n) from {try} {other} same =
+    ap₂ (λ (c d : Choice). orElse c (λ _. d)) (same from (omega arith) (omega arith))
+    (among-same n (suc from) (λ x h k. same x (omega arith) (omega arith)))
+
+-- The cells of a level over a rectangle, in turn
+abbrev amongCells : Rectangle → (Cell → Choice) → ℕ → Choice
+amongCells r try level =
+    firstAmong
+    (λ west. firstAmong
+    (λ south. try (record { level = level; west = lon west; south = lat south }))
+    (sidesOver level (r .south .0) (r .north .0)))
+    (sidesOver level (r .west .0) (r .east .0))
+
+-- The chosen cell is the same for all of one ground
+pub choose-same : {cs ds : List Point} → SameGround cs ds → choose cs ≡ choose ds
+unfolding choose
+choose-same {cs} {ds} g =
+    among-same 19 9 (λ level low high. tries level low (omega arith))
+    ∙ ap (λ (r : Rectangle). firstAmong (amongCells r (tried ds)) (countUp 19 9)) (extremes-same g)
+  where
+    tries : (level : ℕ) → 9 ≤ level → level ≤ 27 → amongCells (extremesOf cs) (tried cs) level ≡ amongCells (extremesOf cs) (tried ds) level
+    tries level low high =
+        let r : Rectangle = extremesOf cs in
+        let cell : ℕ → ℕ → Cell = λ west south. record { level = level; west = lon west; south = lat south } in
+        let same : _≡_ {A = ℕ → ℕ → Choice} (λ west south. tried cs (cell west south)) (λ west south. tried ds (cell west south))
+        = λ i west south. cond (inside-same g (cell west south) low high i) (At (cell west south)) Nowhere in
+        ap
+        (λ (try : ℕ → ℕ → Choice). firstAmong (λ west. firstAmong (try west) (sidesOver level (r .south .0) (r .north .0))) (sidesOver level (r .west .0) (r .east .0)))
+        same
+
+-- and so is the cell that document 01 says is chosen
+pub chosen-same : {cs ds : List Point} {c : Cell} → SameGround cs ds → Chosen cs c → Chosen ds c
+chosen-same {cs} {ds} {c} g chosen = record {
+  cell = chosen .cell;
+  within = subst T (same c (chosen .cell)) (chosen .within);
+  first = λ d cell t. chosen .first d cell (subst T (sym (same d cell)) t);
+}
+  where
+    same : (d : Cell) → IsCell d → inside cs d ≡ inside ds d
+    same d cell = inside-same g d (cell .coarsest) (cell .finest)
+
+-- The code is the same for all of one ground
+pub code-same : {cs ds : List Point} → SameGround cs ds → (number : ℕ)
+    → codeAt (extremesOf cs) number (choose cs) ≡ codeAt (extremesOf ds) number (choose ds)
+code-same g number = ap₂ (λ (r : Rectangle) (c : Choice). codeAt r number c) (extremes-same g) (choose-same g)
+
+-- A test that some corner passes
+abbrev some : (Point → Bool) → List Point → Bool
+some test [] = false
+some test (p ∷ ps) = test p || some test ps
+
+-- There is a first such corner before the end of the list
+first-some : (test : Point → Bool) (ps : List Point) → ltb (firstPlace test ps) (length ps) ≡ some test ps
+first-some test [] = refl
+first-some test (p ∷ ps) = at (test p) (first-some test ps)
+  where
+    at : (i : Bool) → ltb (firstPlace test ps) (length ps) ≡ some test ps
+        → ltb (cond i 0 (suc (firstPlace test ps))) (suc (length ps)) ≡ (i || some test ps)
+    at true ih = lt-ltb 0 (suc (length ps)) (omega arith)
+    at false ih = leb·suc-suc (suc (firstPlace test ps)) (length ps) ∙ ih
+
+-- The greater of two is above an end where one of them is
+max-above : (end x y : ℕ) → ltb end (max x y) ≡ (ltb end x || ltb end y)
+max-above end x y = at (ltb end x) (ltb end y) refl refl
+  where
+    at : (i j : Bool) → ltb end x ≡ i → ltb end y ≡ j → ltb end (max x y) ≡ (i || j)
+    at true j h k = let above = ltb-true end x h in lt-ltb end (max x y) (omega arith)
+    at false true h k = let above = ltb-true end y k in lt-ltb end (max x y) (omega arith)
+    at false false h k = let a = ltb-false end x h in let b = ltb-false end y k in le-ltb end (max x y) (omega arith)
+
+-- The greatest angle is above an end where the angle of some corner is
+greatest-above : (dir : Point → ℕ) (end x : ℕ) (ps : List Point)
+    → ltb end (over max dir x ps) ≡ (ltb end x || some (λ p. ltb end (dir p)) ps)
+greatest-above dir end x [] = sym (or-false (ltb end x))
+greatest-above dir end x (p ∷ ps) =
+    greatest-above dir end (max x (dir p)) ps ∙ ap (λ (b : Bool). b || some (λ p. ltb end (dir p)) ps) (max-above end x (dir p))
+    ∙ or-assoc (ltb end x) (ltb end (dir p)) (some (λ p. ltb end (dir p)) ps)
+
+-- Some corner passes one of two tests where some passes the one or some the other
+some-or : (test other : Point → Bool) (ps : List Point) → some (λ p. test p || other p) ps ≡ (some test ps || some other ps)
+some-or test other [] = refl
+some-or test other (p ∷ ps) =
+    ap (λ (b : Bool). test p || other p || b) (some-or test other ps) ∙ shuffled (test p) (other p) (some test ps) (some other ps)
+  where
+    shuffled : (i j k l : Bool) → (i || j || (k || l)) ≡ (i || k || (j || l))
+    shuffled true j k l = refl
+    shuffled false true k l = sym (or-true k)
+    shuffled false false k l = refl
+
+-- A coordinate is above its range where an extreme is
+pub above-is : (cs : List Point)
+    → ltb (firstPlace aboveRange cs) (length cs) ≡ (ltb latEnd (extremesOf cs .north .0) || ltb lonEnd (extremesOf cs .east .0))
+unfolding extremesOf
+above-is [] = refl
+above-is (c ∷ cs) =
+    first-some aboveRange (c ∷ cs) ∙ some-or (λ p. ltb latEnd (p .lat .0)) (λ p. ltb lonEnd (p .lon .0)) (c ∷ cs)
+    ∙ ap₂ _||_ (sym (at (λ p. p .lat .0) latEnd)) (sym (at (λ p. p .lon .0) lonEnd))
+  where
+    at : (dir : Point → ℕ) (end : ℕ) → ltb end (greatest (map dir (c ∷ cs))) ≡ some (λ p. ltb end (dir p)) (c ∷ cs)
+    at dir end = ap (ltb end) (greatest-is dir (c ∷ cs)) ∙ greatest-above dir end (dir c) cs
+
+-- The number that a table says is the first row's where that refuses
+first-number : (b : Bool) (n place : ℕ) (rows : List Check) → run (check-at n b place ∷ rows) .number ≡ cond b n (run rows .number)
+first-number true n place rows = refl
+first-number false n place rows = refl
+
+-- Every refusal number from 4 on is the same for all of one ground
+pub number-same : {cs ds : List Point} → SameGround cs ds → (kind : Kind) (number : ℕ)
+    → run (cornerChecks cs kind number) .number ≡ run (cornerChecks ds kind number) .number
+unfolding cornerChecks
+number-same {cs} {ds} g kind number = told cs ∙ ap₂ table (extremes-same g) (choose-same g) ∙ sym (told ds)
+  where
+    rows : Rectangle → Choice → List Check
+    rows r c =
+        check 5 (ltb 7372800 (latExtent r) || ltb 7372800 (lonExtent r))
+        ∷ check 6 (badNumber kind number) ∷ check 7 (noCell c) ∷ check 8 (spanAbove r number c) ∷ []
+
+    table : Rectangle → Choice → ℕ
+    table r c = cond (ltb latEnd (r .north .0) || ltb lonEnd (r .east .0)) 4 (run (rows r c) .number)
+
+    told : (cs : List Point) → run (cornerChecks cs kind number) .number ≡ table (extremesOf cs) (choose cs)
+    told cs =
+        first-number (ltb (firstPlace aboveRange cs) (length cs)) 4 (firstPlace aboveRange cs) (rows (extremesOf cs) (choose cs))
+        ∙ ap (λ (b : Bool). cond b 4 (run (rows (extremesOf cs) (choose cs)) .number)) (above-is cs)
+
+-- Checks 1 to 3 pass
+pub record Counted (room numbers : List ℕ) : Type 0 where
+  pub long : ltb (length room) 20 ≡ false
+  pub even : eqb (length numbers % 2) 1 ≡ false
+  pub corners : outside 3 1024 (length numbers / 2) ≡ false
+
+-- Coding says the same number and leaves the same room for all of one ground; only the first and the last list need pass checks 1 to 3
+pub coding-same : {room numbers others : List ℕ} → Counted room numbers → Counted room others
+    → SameGround (cornersOf numbers) (cornersOf others) → (kind : Kind) (number : ℕ)
+    → (coding room numbers kind number .said .number ≡ coding room others kind number .said .number)
+    × (coding room numbers kind number .room ≡ coding room others kind number .room)
+unfolding coding
+coding-same {room} {numbers} {others} h k g kind number =
+    let said = passes numbers h ∙ number-same g kind number ∙ sym (passes others k) in (
+      said,
+      ap₂ (λ (n : ℕ) (code : List ℕ). cond (eqb n 0) (code ++ drop 20 room) room) said (code-same g number),
+    )
+  where
+    passes : (numbers : List ℕ) → Counted room numbers
+        → run (codeChecks room numbers kind number) .number ≡ run (cornerChecks (cornersOf numbers) kind number) .number
+    passes numbers h = rw (h .long, h .even, h .corners)
