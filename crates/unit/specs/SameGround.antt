@@ -23,7 +23,8 @@ use Rattle.code.specs.Code.{outside}
 use Rattle.unit.specs.declared.Kind.{Kind}
 use Rattle.unit.specs.declared.Choice.{Choice}
 use Rattle.unit.specs.declared.Choice.the-variants.{At, Nowhere}
-use Rattle.unit.specs.Extents.{cornersOf, leastFrom, greatestFrom, least, greatest, extremesOf, latExtent, lonExtent}
+use Rattle.boundary.specs.Corners.{cornersOf}
+use Rattle.unit.specs.Extents.{leastFrom, greatestFrom, least, greatest, extremesOf, latExtent, lonExtent}
 use Rattle.unit.specs.Chosen.{Chosen, sidesOver, orElse, firstAmong, countUp, tried, choose}
 use Rattle.unit.specs.Unit.{aboveRange, badNumber, noCell, spanAbove, codeAt, cornerChecks, codeChecks, coding}
 
