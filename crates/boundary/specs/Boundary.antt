@@ -13,10 +13,13 @@ pub record Edge : Type 0 where
   pub start : Point
   pub end : Point
 
+abbrev pub edge : Point → Point → Edge
+edge a b = record { start = a; end = b }
+
 -- From one corner through the others, the last joined to the first
 abbrev pub joined : Point → Point → List Point → List Edge
-joined first here [] = record { start = here; end = first } ∷ []
-joined first here (next ∷ rest) = record { start = here; end = next } ∷ joined first next rest
+joined first here [] = edge here first ∷ []
+joined first here (next ∷ rest) = edge here next ∷ joined first next rest
 
 -- Edges of no length
 abbrev pub noLength : Edge → Bool

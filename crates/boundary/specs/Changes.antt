@@ -1,22 +1,23 @@
 -- The ground's five changes (the mission's demand 3): starting at another corner, turning the direction, repeating a corner beside itself,
 -- setting a corner exactly on an edge, and undoing any of these. A cell is inside for all lists of corners of one ground. Assumes nothing.
-use Prim.Native.Nat.{ℕ, suc, _+_, _*_, _/_, _%_, _≤_, _<_, min}
+use Prim.Native.Nat.{ℕ, _+_, _*_, _/_, _≤_, _<_, min}
 use native.Mathlib.Omega.{arith}
 use mathlib.Core.Path.{_≡_, refl, ap, ap₂, _∙_, sym}
 use mathlib.Core.Bool.{Bool, true, false, cond, not, _&&_, _||_, and-assoc, and-comm}
 use mathlib.Core.List.{List, [], _∷_, _++_, reverse, append-nil, append-assoc}
-use lib.Dec.{eqb, leb}
-use borrow.Author.Tests.{eqb-true, eqb-false, eq-eqb, ne-eqb}
+use lib.Dec.{leb}
 use Rattle.ground.specs.declared.Point.{Point}
 use Rattle.ground.specs.declared.Rectangle.{Rectangle}
 use Rattle.ground.specs.declared.Cell.{Cell}
-use Rattle.ground.specs.Levels.{degree, minute, sizeOf}
-use Rattle.ground.specs.Sizes.{size-least}
-use Rattle.ground.specs.Cells.{afresh, highSide, sidesOf, centreOf}
-use Rattle.boundary.specs.Boundary.{Edge, edgesOf, misses, crossesEast, left, countEast, pointInside, unmet, inside}
-use Rattle.boundary.specs.Walk.{edge, next, total, Sums, around, around-next, around-reverse, around-set}
-use Rattle.boundary.specs.Insert.{OnEdge, on-start, differ, crosses-other-way, crosses-set, misses-one-point}
-use Rattle.boundary.specs.Parts.{Room, misses-other-way, misses-set}
+use Rattle.ground.specs.Cells.{sidesOf, centreOf}
+use Rattle.ground.specs.CellTest.{low-below-high}
+use Rattle.boundary.specs.Boundary.{Edge, edgesOf, misses, crossesEast, left, pointInside, unmet, inside}
+use Rattle.boundary.specs.Boundary.{edge}
+use Rattle.boundary.specs.Walk.{next, total, Sums, around, around-next, around-reverse, around-set}
+use Rattle.boundary.specs.Odd.{differ, differ-comm, inside-odd}
+use Rattle.boundary.specs.Parity.{Room}
+use Rattle.boundary.specs.Insert.{OnEdge, on-start, crosses-other-way, crosses-set, misses-one-point}
+use Rattle.boundary.specs.Parts.{misses-other-way, misses-set}
 
 -- A change of a list of corners
 pub data Change : List Point → List Point → Type 0 where
@@ -81,7 +82,7 @@ module _ (r : Rectangle) where
   unmet-kept room =
       record {
         started = around-next _&&_ true (λ e. misses e r) and-sums (misses-one-point r);
-        turned = around-reverse _&&_ true (λ e. misses e r) and-sums (misses-one-point r) (misses-other-way r);
+        turned = around-reverse _&&_ true (λ e. misses e r) and-sums (misses-one-point r) (misses-other-way r room);
         set = λ a p cs on. around-set _&&_ true (λ e. misses e r) and-sums (misses-one-point r) a p cs (misses-set r room a p (next a cs) on);
       }
 
@@ -92,19 +93,13 @@ module _ (r : Rectangle) where
 
 -- Odd counts
 pub differ-sums : Sums differ false
-differ-sums = record { assoc = assoc; comm = comm; none = λ x. refl }
+differ-sums = record { assoc = assoc; comm = differ-comm; none = λ x. refl }
   where
     assoc : (x y z : Bool) → differ (differ x y) z ≡ differ x (differ y z)
     assoc true true true = refl
     assoc true true false = refl
     assoc true false z = refl
     assoc false y z = refl
-
-    comm : (x y : Bool) → differ x y ≡ differ y x
-    comm true true = refl
-    comm true false = refl
-    comm false true = refl
-    comm false false = refl
 
 module _ (q : Point) where
   -- An edge of no length crosses nothing
@@ -115,18 +110,6 @@ module _ (q : Point) where
       at : (i : Bool) → (i && not i && left a a q || i && not i && left a a q) ≡ false
       at true = refl
       at false = refl
-
-  pub odd-total : (es : List Edge) → pointInside q es ≡ total differ false (crossesEast q) es
-  odd-total [] = refl
-  odd-total (e ∷ es) = one-more (crossesEast q e) (countEast q es) ∙ ap (differ (crossesEast q e)) (odd-total es)
-    where
-      more : (n : ℕ) (i : Bool) → eqb (n % 2) 1 ≡ i → eqb (suc n % 2) 1 ≡ not i
-      more n true h = let odd : n % 2 ≡ 1 = eqb-true (n % 2) 1 h in ne-eqb (suc n % 2) 1 (λ e. omega arith)
-      more n false h = let even : n % 2 ≡ 1 → ⊥ = eqb-false (n % 2) 1 h in eq-eqb (suc n % 2) 1 (omega arith)
-
-      one-more : (i : Bool) (n : ℕ) → eqb (cond i (suc n) n % 2) 1 ≡ differ i (eqb (n % 2) 1)
-      one-more true n = more n (eqb (n % 2) 1) refl
-      one-more false n = refl
 
   odd-kept : Kept (around differ false (crossesEast q))
   odd-kept =
@@ -139,21 +122,12 @@ module _ (q : Point) where
   -- A point is inside for all of one ground
   pub point-same : {cs ds : List Point} → SameGround cs ds → pointInside q (edgesOf cs) ≡ pointInside q (edgesOf ds)
   point-same {cs} {ds} g =
-      odd-total (edgesOf cs) ∙ kept-ground (around differ false (crossesEast q)) odd-kept g ∙ sym (odd-total (edgesOf ds))
+      inside-odd q (edgesOf cs) ∙ kept-ground (around differ false (crossesEast q)) odd-kept g ∙ sym (inside-odd q (edgesOf ds))
 
--- A cell's high side is above its low side
-high-above : (level a : ℕ) → 9 ≤ level → level ≤ 27 → a < highSide level a
-unfolding highSide afresh
-high-above level a low high = at (leb level 15)
-  where
-    at : (i : Bool) → a < min (a + sizeOf level) (a / cond i degree minute * cond i degree minute + cond i degree minute)
-    at true = omega (arith, size-least level low high)
-    at false = omega (arith, size-least level low high)
-
--- so a cell of levels 9 to 27 has room
+-- A cell of levels 9 to 27 has room
 pub cell-room : (c : Cell) → 9 ≤ c .level → c .level ≤ 27 → Room (sidesOf c)
 unfolding sidesOf
-cell-room c low high = record { lat = high-above (c .level) (c .south .0) low high; lon = high-above (c .level) (c .west .0) low high }
+cell-room c low high = record { across = low-below-high (c .level) (c .west .0) low high; up = low-below-high (c .level) (c .south .0) low high }
 
 -- A cell of levels 9 to 27 is inside for all of one ground
 pub inside-same : {cs ds : List Point} → SameGround cs ds → (c : Cell) → 9 ≤ c .level → c .level ≤ 27 → inside cs c ≡ inside ds c

@@ -1,4 +1,4 @@
--- An edge by its two ends, as the code has it, and what the code's tests say of sides. Assumes nothing.
+-- What the code's tests say of sides. Assumes nothing.
 use Prim.Native.Nat.{ℕ, _+_, _*_, _≤_, _<_}
 use native.Mathlib.Omega.{arith}
 use mathlib.Core.Path.{_≡_, refl, ap, sym, _∙_}
@@ -7,12 +7,8 @@ use lib.Dec.{leb, ltb}
 use borrow.Author.Tests.{leb-true, leb-false, ltb-true, ltb-false}
 use Rattle.ground.specs.declared.Point.{Point}
 use Rattle.ground.specs.declared.Rectangle.{Rectangle}
-use Rattle.boundary.specs.Boundary.{Edge, leftSum, rightSum, left, leftOrOn}
-use Rattle.boundary.specs.Extreme.{Ordered}
-
--- The edge from a to b
-abbrev pub edge : Point → Point → Edge
-edge a b = record { start = a; end = b }
+use Rattle.boundary.specs.Boundary.{leftSum, rightSum, left, leftOrOn}
+use Rattle.boundary.specs.Missing.{Ordered}
 
 -- Left of a line or on it is not left of the line turned round
 pub not-right : (a b p : Point) → leftOrOn a b p ≡ not (left b a p)
@@ -39,6 +35,6 @@ pub found-ordered : (r : Rectangle) {s : Bool} → s ≡ (leb (r .west .0) (r .e
 found-ordered r e k = at (leb (r .west .0) (r .east .0)) refl (leb (r .south .0) (r .north .0)) refl (sym e ∙ k)
   where
     at : (t : Bool) → leb (r .west .0) (r .east .0) ≡ t → (u : Bool) → leb (r .south .0) (r .north .0) ≡ u → (t && u) ≡ true → Ordered r
-    at true l true m h = record { lon = leb-true (r .west .0) (r .east .0) l; lat = leb-true (r .south .0) (r .north .0) m }
+    at true l true m h = record { across = leb-true (r .west .0) (r .east .0) l; up = leb-true (r .south .0) (r .north .0) m }
     at true l false m h = absurd (false≢true h)
     at false l u m h = absurd (false≢true h)

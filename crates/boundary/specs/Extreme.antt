@@ -12,18 +12,7 @@ use Rattle.ground.specs.declared.Point.{Point}
 use Rattle.ground.specs.declared.Rectangle.{Rectangle}
 use Rattle.boundary.specs.Boundary.{leftSum, rightSum, leftOrOn, allLeft}
 use Rattle.boundary.specs.Products.{product-le}
-
--- A rectangle whose sides are in order
-pub record Ordered (r : Rectangle) : Type 0 where
-  pub lon : r .west .0 ≤ r .east .0
-  pub lat : r .south .0 ≤ r .north .0
-
--- A point of it, its sides included
-pub record Holds (r : Rectangle) (p : Point) : Type 0 where
-  pub west : r .west .0 ≤ p .lon .0
-  pub east : p .lon .0 ≤ r .east .0
-  pub south : r .south .0 ≤ p .lat .0
-  pub north : p .lat .0 ≤ r .north .0
+use Rattle.boundary.specs.Missing.{Ordered, Holds}
 
 -- Going with or left of the line keeps a point left of it
 toward : (a b p q : Point)
@@ -78,9 +67,9 @@ all-left a b r o = at (leftOrOn a b (extreme a b r)) refl
     at : (t : Bool) → leftOrOn a b (extreme a b r) ≡ t → allLeft a b r ≡ t
     at true e =
         rw (
-          corner (r .south) (r .west) (record { west = le-refl _; east = o .lon; south = le-refl _; north = o .lat }) e,
-          corner (r .south) (r .east) (record { west = o .lon; east = le-refl _; south = le-refl _; north = o .lat }) e,
-          corner (r .north) (r .west) (record { west = le-refl _; east = o .lon; south = o .lat; north = le-refl _ }) e,
-          corner (r .north) (r .east) (record { west = o .lon; east = le-refl _; south = o .lat; north = le-refl _ }) e,
+          corner (r .south) (r .west) (record { west = le-refl _; east = o .across; south = le-refl _; north = o .up }) e,
+          corner (r .south) (r .east) (record { west = o .across; east = le-refl _; south = le-refl _; north = o .up }) e,
+          corner (r .north) (r .west) (record { west = le-refl _; east = o .across; south = o .up; north = le-refl _ }) e,
+          corner (r .north) (r .east) (record { west = o .across; east = le-refl _; south = o .up; north = le-refl _ }) e,
         )
     at false e = one (leb (a .lon .0) (b .lon .0)) (leb (a .lat .0) (b .lat .0)) e

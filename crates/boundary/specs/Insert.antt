@@ -13,7 +13,8 @@ use Rattle.ground.specs.declared.Point.{Point}
 use Rattle.ground.specs.declared.Rectangle.{Rectangle}
 use Rattle.boundary.specs.Boundary.{leftSum, rightSum, left, leftOrOn, allLeft, beyond, misses, crossesEast}
 use Rattle.boundary.specs.Products.{product-le, product-lt, either-way}
-use Rattle.boundary.specs.Walk.{edge}
+use Rattle.boundary.specs.Boundary.{edge}
+use Rattle.boundary.specs.Odd.{differ}
 
 -- A number between two others, ends included
 abbrev pub Between : ℕ → ℕ → ℕ → Type 0
@@ -148,11 +149,6 @@ module _ (a p b : Point) (on : OnEdge a p b) where
   unfolding left
   same-left-back apart q =
       left-back a b q ∙ same-ltb (sign-other-way (same-sign (inl apart) q)) ∙ sym (left-back a p q)
-
--- One of two, and not both
-abbrev pub differ : Bool → Bool → Bool
-differ true b = not b
-differ false b = b
 
 -- An odd count either way
 pub crosses-other-way : (q a b : Point) → crossesEast q (edge a b) ≡ crossesEast q (edge b a)

@@ -2,14 +2,14 @@ pub mod Boundary
 pub mod Corners
 pub mod Products
 pub mod Signs
+pub mod Missing
 pub mod Extreme
 pub mod Edges
-pub mod Missing
+pub mod Walk
 pub mod Odd
 pub mod Parity
 pub mod Inner
 pub mod Apart
-pub mod Walk
 pub mod Insert
 pub mod Parts
 pub mod Changes

@@ -14,9 +14,11 @@ use Rattle.ground.specs.Cells.{sidesOf, centreOf}
 use Rattle.ground.specs.CellTest.{isCell, sidesFound, found-of}
 use Rattle.boundary.specs.Boundary.{Edge, edgesOf, misses, unmet, crossesEast, pointInside, inside}
 use Rattle.boundary.specs.Corners.{cornersOf, cornerAt, corners-length, corners-from}
-use Rattle.boundary.specs.Walk.{edge, Sums, way, around-way}
-use Rattle.boundary.specs.Insert.{differ, misses-one-point}
-use Rattle.boundary.specs.Changes.{and-sums, unmet-total, differ-sums, crosses-one-point, odd-total}
+use Rattle.boundary.specs.Boundary.{edge}
+use Rattle.boundary.specs.Walk.{Sums, way, around-way}
+use Rattle.boundary.specs.Odd.{differ, inside-odd}
+use Rattle.boundary.specs.Insert.{misses-one-point}
+use Rattle.boundary.specs.Changes.{and-sums, unmet-total, differ-sums, crosses-one-point}
 
 -- The loop stands at a corner before place i: the sum so far with that of the way left is the whole
 pub record Walked {M : Type 0} (op : M → M → M) (unit : M) (g : Edge → M) (corners : List Point) (whole : M) (first here : Point) (i : ℕ)
@@ -77,7 +79,7 @@ pub unmet-way : (r : Rectangle) (c : Point) (cs : List Point) → unmet r (edges
 unmet-way r c cs = unmet-total r (edgesOf (c ∷ cs)) ∙ around-way _&&_ true (λ e. misses e r) and-sums (misses-one-point r) c cs
 
 pub odd-way : (q : Point) (c : Point) (cs : List Point) → pointInside q (edgesOf (c ∷ cs)) ≡ way differ false (crossesEast q) c c cs
-odd-way q c cs = odd-total q (edgesOf (c ∷ cs)) ∙ around-way differ false (crossesEast q) differ-sums (crosses-one-point q) c cs
+odd-way q c cs = inside-odd q (edgesOf (c ∷ cs)) ∙ around-way differ false (crossesEast q) differ-sums (crosses-one-point q) c cs
 
 -- A cell is inside when no edge meets the sides found and their centre is inside
 pub inside-found : (corners : List Point) (c : Cell) (r : Rectangle) → Of r ≡ sidesFound c

@@ -10,7 +10,7 @@ use lib.Dec.{eqb}
 use borrow.Author.Tests.{eqb-true, eqb-false, eq-eqb, ne-eqb}
 use Rattle.ground.specs.declared.Point.{Point}
 use Rattle.boundary.specs.Boundary.{Edge, joined, noLength, withLength, edgesOf, crossesEast, countEast, pointInside}
-use Rattle.boundary.specs.Missing.{both}
+use Rattle.boundary.specs.Walk.{total, one-point}
 
 -- One of two, and not both
 abbrev pub differ : Bool → Bool → Bool
@@ -19,8 +19,7 @@ differ false b = b
 
 -- An odd number of a list's edges pass a test
 abbrev pub oddly : (Edge → Bool) → List Edge → Bool
-oddly f [] = false
-oddly f (e ∷ es) = differ (f e) (oddly f es)
+oddly f es = total differ false f es
 
 -- Each element of a list is such
 abbrev pub Each : {A : Type 0} → (A → Type 0) → List A → Type 0
@@ -82,14 +81,6 @@ pub odd-differ : (f g : Edge → Bool) (es : List Edge) → oddly (λ e. differ 
 odd-differ f g [] = refl
 odd-differ f g (e ∷ es) = ap (differ (differ (f e) (g e))) (odd-differ f g es) ∙ exchange (f e) (g e) (oddly f es) (oddly g es)
 
--- The ends of an edge of no length are the same
-same-ends : (e : Edge) → noLength e ≡ true → e .start ≡ e .end
-same-ends e t =
-    let ts = both (eqb (e .start .lat .0) (e .end .lat .0)) (eqb (e .start .lon .0) (e .end .lon .0)) t in
-    let y = eqb-true (e .start .lat .0) (e .end .lat .0) (ts .0) in
-    let x = eqb-true (e .start .lon .0) (e .end .lon .0) (ts .1) in
-    λ i. record { lat = record { 0 = y i }; lon = record { 0 = x i } }
-
 module _ (f : Edge → Bool) (g : Point → Bool) where
   -- A test of an edge that tells its ends apart
   abbrev pub Tells : Edge → Type 0
@@ -100,7 +91,7 @@ module _ (f : Edge → Bool) (g : Point → Bool) where
   step e es last ih = at (noLength e) refl
     where
       at : (b : Bool) → noLength e ≡ b → Each Tells (cond b es (e ∷ es)) → oddly f (cond b es (e ∷ es)) ≡ differ (g (e .start)) (g last)
-      at true k t = ih t ∙ ap (λ (v : Point). differ (g v) (g last)) (sym (same-ends e k))
+      at true k t = ih t ∙ ap (λ (v : Point). differ (g v) (g last)) (sym (one-point e k))
       at false k t = ap₂ differ (t .0) (ih (t .1)) ∙ chain (g (e .start)) (g (e .end)) (g last)
 
   around : (first here : Point) (rest : List Point) → Each Tells (withLength (joined first here rest))

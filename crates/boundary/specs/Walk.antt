@@ -1,16 +1,13 @@
 -- Closed walks: what a sum over the edges of a boundary keeps when its corners are changed. A sum is by any operation that is
 -- associative and commutative and has a unit. Assumes nothing.
 use mathlib.Core.Path.{_≡_, refl, ap, ap₂, _∙_, sym}
-use mathlib.Core.Bool.{Bool, true, false, cond, _&&_, false≢true}
+use mathlib.Core.Bool.{Bool, true, false, cond}
 use mathlib.Core.List.{List, [], _∷_, _++_, reverse, reverse-cons}
 use lib.Dec.{eqb}
 use borrow.Author.Tests.{eqb-true}
 use Rattle.ground.specs.declared.Point.{Point}
-use Rattle.boundary.specs.Boundary.{Edge, joined, noLength, withLength, edgesOf}
-
--- The edge from one corner to another
-abbrev pub edge : Point → Point → Edge
-edge a b = record { start = a; end = b }
+use Rattle.boundary.specs.Boundary.{edge, Edge, joined, noLength, withLength, edgesOf}
+use Rattle.boundary.specs.Missing.{both}
 
 -- The corner after the first, which is the first itself where it is alone
 abbrev pub next : Point → List Point → Point
@@ -27,11 +24,6 @@ pub record Sums {M : Type 0} (op : M → M → M) (unit : M) : Type 0 where
   pub assoc : (x y z : M) → op (op x y) z ≡ op x (op y z)
   pub comm : (x y : M) → op x y ≡ op y x
   pub none : (x : M) → op unit x ≡ x
-
--- Two truths in one
-pub both : (a b : Bool) → (a && b) ≡ true → (a ≡ true) × (b ≡ true)
-both true b t = (refl, t)
-both false b t = absurd (false≢true t)
 
 -- Ends of an edge of no length are one point
 pub one-point : (e : Edge) → noLength e ≡ true → e .start ≡ e .end

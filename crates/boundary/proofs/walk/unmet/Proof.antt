@@ -10,7 +10,8 @@ use lib.ListN.{length}
 use Rattle.ground.specs.declared.Point.{Point}
 use Rattle.boundary.specs.Boundary.{edgesOf, misses, unmet}
 use Rattle.boundary.specs.Corners.{cornersOf}
-use Rattle.boundary.specs.Walk.{edge, way}
+use Rattle.boundary.specs.Boundary.{edge}
+use Rattle.boundary.specs.Walk.{way}
 use Rattle.boundary.specs.Changes.{and-sums}
 use Rattle.boundary.specs.Loops.{Walked, walk-begin, walk-again, walk-end, walk-as, no-corners, unmet-way}
 use Rattle.boundary.proofs.walk.unmet.Statement.{statement}
