@@ -6,6 +6,7 @@ mod walk;
 pub use edge::crosses_east;
 pub use edge::misses;
 pub use side::left;
+pub use walk::corner;
 pub use walk::inside;
 pub use walk::odd_count;
 pub use walk::unmet;

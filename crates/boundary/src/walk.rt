@@ -2,8 +2,7 @@
 // the last corner joined to the first.
 ghost use mathlib.Core.Path.{_≡_};
 ghost use mathlib.Core.Bool.{_&&_};
-ghost use Prim.Native.Nat.{_/_, _<_};
-ghost use lib.ListN.{length};
+ghost use lib.ListN.{getD};
 ghost use Rattle.ground.specs.CellTest.{isCell};
 ghost use Rattle.boundary.specs.Boundary.{edgesOf, unmet as Boundary·unmet, pointInside, inside as Boundary·inside};
 ghost use Rattle.boundary.specs.Corners.{cornersOf, cornerAt};
@@ -16,14 +15,32 @@ use ground::Point;
 use ground::Rectangle;
 use ground::Sides;
 
-// The corner at a place of the list.
-fn corner(numbers: &[u32], i: usize) -> Point
-    requires { ⌜ i < length (now numbers) / 2 ⌝ }
+// A number of the list, and 0 past its end.
+fn number(numbers: &[u32], k: usize) -> u32
+    ensures { λ r. ⌜ r ≡ getD (now (numbers .entry)) k 0 ⌝ }
+{
+    if k < numbers.len() { numbers[k] } else { 0 }
+}
+
+// The corner at a place of the list; a coordinate that the list does not have is 0.
+pub fn corner(numbers: &[u32], i: usize) -> Point
     ensures { λ p. ⌜ p ≡ cornerAt (now (numbers .entry)) i ⌝ }
 {
+    if i < numbers.len() / 2 {
+        return Point {
+            lat: Lat(numbers[2 * i]),
+            lon: Lon(numbers[2 * i + 1]),
+        };
+    }
+    if numbers.len() <= i {
+        return Point {
+            lat: Lat(0),
+            lon: Lon(0),
+        };
+    }
     Point {
-        lat: Lat(numbers[2 * i]),
-        lon: Lon(numbers[2 * i + 1]),
+        lat: Lat(number(numbers, 2 * i)),
+        lon: Lon(number(numbers, 2 * i + 1)),
     }
 }
 
