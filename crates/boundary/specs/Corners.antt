@@ -1,9 +1,11 @@
 -- The corners of a boundary from the caller's numbers, and the laws by which a loop takes them one by one. Assumes nothing.
 use Prim.Native.Nat.{ℕ, zero, suc, _+_, _*_, _/_, _<_, _≤_}
+use native.Mathlib.Nat.{add-zero}
 use native.Mathlib.Omega.{arith}
 use mathlib.Core.Path.{_≡_, refl, ap, ap₂, _∙_, sym}
 use mathlib.Core.List.{List, [], _∷_}
 use lib.ListN.{length, getD, drop}
+use lib.Seq.{getD-drop}
 use Rattle.ground.specs.declared.Point.{Point}
 use Rattle.ground.specs.Levels.{lat, lon}
 
@@ -38,3 +40,10 @@ corners-from (a ∷ o ∷ rest) (suc i) h =
   where
     later : (m n : ℕ) → m ≡ suc (suc n) → getD rest n 0 ≡ getD (a ∷ o ∷ rest) m 0
     later m n e = sym (ap (λ (k : ℕ). getD (a ∷ o ∷ rest) k 0) e)
+
+-- The corner at a place is the list's element there
+pub corner-get : (numbers : List ℕ) (i : ℕ) (d : Point) → i < length numbers / 2 → getD (cornersOf numbers) i d ≡ cornerAt numbers i
+corner-get numbers i d h =
+    ap (λ (k : ℕ). getD (cornersOf numbers) k d) (sym (add-zero i))
+    ∙ sym (getD-drop i (cornersOf numbers) 0 d)
+    ∙ ap (λ (l : List Point). getD l 0 d) (corners-from numbers i h)

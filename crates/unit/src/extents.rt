@@ -1,0 +1,97 @@
+// The extents of a unit, and its first corner above the range, over the caller's numbers.
+ghost use mathlib.Core.Path.{_≡_};
+ghost use Prim.Native.Nat.{min, max};
+ghost use Rattle.replies.specs.Places.{firstPlace};
+ghost use Rattle.boundary.specs.Corners.{cornersOf};
+ghost use Rattle.unit.specs.Extents.{extremesOf};
+ghost use Rattle.unit.specs.Unit.{aboveRange};
+ghost use Rattle.unit.specs.Widening.{widened};
+use boundary::corner;
+use ground::Lat;
+use ground::Lon;
+use ground::Point;
+use ground::Rectangle;
+
+fn lesser(a: u32, b: u32) -> u32
+    ensures { λ r. ⌜ r ≡ min a b ⌝ }
+{
+    if a < b { a } else { b }
+}
+
+fn greater(a: u32, b: u32) -> u32
+    ensures { λ r. ⌜ r ≡ max a b ⌝ }
+{
+    if a < b { b } else { a }
+}
+
+// A rectangle widened to hold a point.
+fn widen(r: Rectangle, p: Point) -> Rectangle
+    ensures { λ w. ⌜ w ≡ widened r p ⌝ }
+{
+    let west = r.west;
+    let east = r.east;
+    let south = r.south;
+    let north = r.north;
+    let lat = p.lat;
+    let lon = p.lon;
+    Rectangle {
+        west: Lon(lesser(west.0, lon.0)),
+        east: Lon(greater(east.0, lon.0)),
+        south: Lat(lesser(south.0, lat.0)),
+        north: Lat(greater(north.0, lat.0)),
+    }
+}
+
+// The unit's own extremes; all sides 0 where it has no corner.
+pub fn extremes(numbers: &[u32]) -> Rectangle
+    ensures { λ r. ⌜ r ≡ extremesOf (cornersOf (now (numbers .entry))) ⌝ }
+{
+    let count = numbers.len() / 2;
+    if count == 0 {
+        return Rectangle {
+            west: Lon(0),
+            east: Lon(0),
+            south: Lat(0),
+            north: Lat(0),
+        };
+    }
+    let first = corner(numbers, 0);
+    let lat = first.lat;
+    let lon = first.lon;
+    let mut r = Rectangle {
+        west: lon,
+        east: lon,
+        south: lat,
+        north: lat,
+    };
+    let mut i = 1;
+    while i < count {
+        r = widen(r, corner(numbers, i));
+        i += 1;
+    }
+    r
+}
+
+// Whether a point has a coordinate above its range.
+fn above_range(p: Point) -> bool
+    ensures { λ r. ⌜ r ≡ aboveRange p ⌝ }
+{
+    let lat = p.lat;
+    let lon = p.lon;
+    663552000 < lat.0 || 1327104000 < lon.0
+}
+
+// The place of the first corner with a coordinate above its range, or the count of corners.
+pub fn first_above(numbers: &[u32]) -> usize
+    ensures { λ r. ⌜ r ≡ firstPlace aboveRange (cornersOf (now (numbers .entry))) ⌝ }
+{
+    let count = numbers.len() / 2;
+    let mut i = 0;
+    while i < count {
+        if above_range(corner(numbers, i)) {
+            return i;
+        }
+        i += 1;
+    }
+    i
+}
