@@ -1,4 +1,5 @@
 pub mod Extents
 pub mod Chosen
 pub mod Unit
+pub mod Scale
 pub mod InExtents
