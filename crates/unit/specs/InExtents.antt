@@ -29,7 +29,7 @@ least-from : (x : ℕ) (ys : List ℕ) → (leastFrom x ys ≤ x) × Each (λ (y
 least-from x [] = (omega arith, tt)
 least-from x (y ∷ ys) = let t = least-from (min x y) ys in (omega (arith, t .0), (omega (arith, t .0), t .1))
 
-least-each : (xs : List ℕ) → Each (λ (y : ℕ). least xs ≤ y) xs
+pub least-each : (xs : List ℕ) → Each (λ (y : ℕ). least xs ≤ y) xs
 least-each [] = tt
 least-each (x ∷ xs) = least-from x xs
 
@@ -38,7 +38,7 @@ greatest-from : (x : ℕ) (ys : List ℕ) → (x ≤ greatestFrom x ys) × Each 
 greatest-from x [] = (omega arith, tt)
 greatest-from x (y ∷ ys) = let t = greatest-from (max x y) ys in (omega (arith, t .0), (omega (arith, t .0), t .1))
 
-greatest-each : (xs : List ℕ) → Each (λ (y : ℕ). y ≤ greatest xs) xs
+pub greatest-each : (xs : List ℕ) → Each (λ (y : ℕ). y ≤ greatest xs) xs
 greatest-each [] = tt
 greatest-each (x ∷ xs) = greatest-from x xs
 

@@ -3,3 +3,4 @@ pub mod Chosen
 pub mod Unit
 pub mod Scale
 pub mod InExtents
+pub mod Cover
