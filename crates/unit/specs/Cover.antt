@@ -3,13 +3,15 @@
 use Prim.Native.Nat.{ℕ, zero, suc, _+_, _-_, _*_, _/_, _≤_, _<_, min, max}
 use native.Mathlib.Nat.{div-mul-le-self, lt-div-mul-add}
 use native.Mathlib.Omega.{arith}
-use mathlib.Core.Path.{_≡_}
-use mathlib.Core.Bool.{true, false, _||_}
+use mathlib.Core.Path.{_≡_, refl, ap, ap₂, sym, _∙_}
+use mathlib.Core.Bool.{Bool, true, false, cond, _||_, true≢false}
 use mathlib.Core.List.{List, [], _∷_, map}
-use lib.Dec.{ltb}
+use lib.Dec.{eqb, ltb}
 use lib.ListN.{length, getD}
-use borrow.Author.Tests.{ltb-false}
-use Rattle.replies.specs.Tests.{neither}
+use borrow.Author.Tests.{ltb-false, eqb-true, not-false}
+use Rattle.replies.specs.Replies.{Said, accepted, outcome}
+use Rattle.replies.specs.Places.{firstPlace}
+use Rattle.replies.specs.Tests.{neither, passed}
 use Rattle.ground.specs.declared.Point.{Point}
 use Rattle.ground.specs.declared.Rectangle.{Rectangle}
 use Rattle.ground.specs.declared.Cell.{Cell}
@@ -17,14 +19,20 @@ use Rattle.ground.specs.Levels.{degree, latEnd, lonEnd, sizeOf}
 use Rattle.ground.specs.Cells.{IsCell, locationCell, cornerOf}
 use Rattle.ground.specs.CellLaws.{Placed}
 use Rattle.code.specs.declared.Fields.{Fields}
-use Rattle.code.specs.Code.{codeOf, rectangleOf, reading, tellsOf}
-use Rattle.code.specs.Writing.{Good}
-use Rattle.code.specs.Reverse.{reading-code}
+use Rattle.code.specs.Code.{codeOf, rectangleOf, writing, reading, Told, tellsOf}
+use Rattle.code.specs.Writing.{within, Good, good-writing}
+use Rattle.code.specs.Reverse.{reading-code, reading-written}
+use Rattle.boundary.specs.Corners.{cornersOf}
 use Rattle.boundary.specs.Boundary.{inside}
 use Rattle.boundary.specs.Missing.{Holds}
 use Rattle.boundary.specs.Odd.{Each}
+use Rattle.unit.specs.declared.Kind.{Kind}
+use Rattle.unit.specs.declared.Kind.the-variants.{Building, Other}
+use Rattle.unit.specs.declared.Choice.{Choice}
+use Rattle.unit.specs.declared.Choice.the-variants.{At, Nowhere}
 use Rattle.unit.specs.Extents.{greatestFrom, greatest, lats, lons, extremesOf, latExtent, lonExtent, spanOf}
-use Rattle.unit.specs.Unit.{scaleOf, distance, spanCells, fieldsOf, aboveRange, above31}
+use Rattle.unit.specs.Chosen.{choose}
+use Rattle.unit.specs.Unit.{scaleOf, distance, spanCells, fieldsOf, aboveRange, badNumber, noCell, above31, spanAbove, codeAt, cornerChecks, codeChecks, coding}
 use Rattle.unit.specs.Scale.{scale-size, scale-written}
 use Rattle.unit.specs.InExtents.{least-each, greatest-each, reference-lat, reference-lon, fields-least}
 
@@ -176,3 +184,71 @@ module _ {corners : List Point} {number : ℕ} {c : Cell} (p : Passing corners n
         south = omega (arith, k .lat .below, held .south);
         north = omega (arith, k .lat .above, held .north);
       }
+
+-- A list in which no element is met that passes a test has none
+none-such : {A : Type 0} (test : A → Bool) (xs : List A) → length xs ≤ firstPlace test xs → Each (λ (x : A). test x ≡ false) xs
+none-such test [] h = tt
+none-such {A} test (x ∷ xs) h = at (test x) refl h (none-such test xs)
+  where
+    at : (b : Bool) → test x ≡ b → length (x ∷ xs) ≤ cond b 0 (suc (firstPlace test xs))
+        → (length xs ≤ firstPlace test xs → Each (λ (x : A). test x ≡ false) xs) → (test x ≡ false) × Each (λ (x : A). test x ≡ false) xs
+    at true e k ih = let none : ⊥ = omega arith in absurd none
+    at false e k ih = (e, ih (omega arith))
+
+-- A number that check 6 does not refuse is at most 1,048,575
+number-most : (kind : Kind) (number : ℕ) → badNumber kind number ≡ false → number ≤ 1048575
+number-most Building number e = within 1 1048575 number e .1
+number-most Other number e = let none : number ≡ 0 = eqb-true number 0 (not-false (eqb number 0) e) in omega arith
+
+-- A unit coded: its cell, with which no check refuses, and coding is writing from its fields
+pub record Coded (room numbers : List ℕ) (kind : Kind) (number : ℕ) : Type 0 where
+  pub cell : Cell
+  pub chosen : choose (cornersOf numbers) ≡ At cell
+  pub passing : Passing (cornersOf numbers) number cell
+  pub written : coding room numbers kind number ≡ writing room (unitFields (cornersOf numbers) number cell)
+
+module _ (room numbers : List ℕ) (kind : Kind) (number : ℕ)
+    (found : (c : Cell) → choose (cornersOf numbers) ≡ At c → IsCell c × (inside (cornersOf numbers) c ≡ true)) where
+  -- Coding that accepts codes its unit
+  pub coded : coding room numbers kind number .said ≡ accepted → Coded room numbers kind number
+  unfolding coding cornerChecks
+  coded e =
+      let corners : List Point = cornersOf numbers in
+      let r : Rectangle = extremesOf corners in
+      let p = passed (codeChecks room numbers kind number) tt (ap (λ (s : Said). s .number) e) in
+      let q = p .1 .1 .1 in
+      let extents = neither (ltb 7372800 (latExtent r)) (ltb 7372800 (lonExtent r)) (q .1 .0) in
+      at (choose corners) refl
+      (ltb-false (length room) 20 (p .0))
+      (none-such aboveRange corners (ltb-false (firstPlace aboveRange corners) (length corners) (q .0)))
+      (ltb-false 7372800 (latExtent r) (extents .0))
+      (ltb-false 7372800 (lonExtent r) (extents .1))
+      (number-most kind number (q .1 .1 .0))
+      (q .1 .1 .1 .0)
+      (q .1 .1 .1 .1 .0)
+    where
+      at : (choice : Choice) → choose (cornersOf numbers) ≡ choice → 20 ≤ length room
+          → Each (λ (v : Point). aboveRange v ≡ false) (cornersOf numbers)
+          → latExtent (extremesOf (cornersOf numbers)) ≤ degree → lonExtent (extremesOf (cornersOf numbers)) ≤ degree
+          → number ≤ 1048575 → noCell choice ≡ false → spanAbove (extremesOf (cornersOf numbers)) number choice ≡ false
+          → Coded room numbers kind number
+      at (At c) chosen long range lat lon unit some spans =
+          let is = found c chosen in
+          let passing : Passing (cornersOf numbers) number c = record {
+            cell = is .0;
+            within = is .1;
+            range = range;
+            lat = lat;
+            lon = lon;
+            unit = unit;
+            spans = spans;
+          } in
+          record {
+            cell = c;
+            chosen = chosen;
+            passing = passing;
+            written =
+                ap₂ (λ (said : Said) (choice : Choice). outcome said (codeAt (extremesOf (cornersOf numbers)) number choice) room) e chosen
+                ∙ sym (good-writing room (unitFields (cornersOf numbers) number c) long (fields-good passing));
+          }
+      at Nowhere chosen long range lat lon unit some spans = absurd (true≢false some)
