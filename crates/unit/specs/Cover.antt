@@ -3,13 +3,13 @@
 use Prim.Native.Nat.{ℕ, zero, suc, _+_, _-_, _*_, _/_, _≤_, _<_, min, max}
 use native.Mathlib.Nat.{div-mul-le-self, lt-div-mul-add}
 use native.Mathlib.Omega.{arith}
-use mathlib.Core.Path.{_≡_, refl, ap, ap₂, sym, _∙_}
+use mathlib.Core.Path.{_≡_, refl, ap, ap₂, sym, subst, _∙_}
 use mathlib.Core.Bool.{Bool, true, false, cond, _||_, true≢false}
 use mathlib.Core.List.{List, [], _∷_, map}
 use lib.Dec.{eqb, ltb}
-use lib.ListN.{length, getD}
+use lib.ListN.{length, getD, take}
 use borrow.Author.Tests.{ltb-false, eqb-true, not-false}
-use Rattle.replies.specs.Replies.{Said, accepted, outcome}
+use Rattle.replies.specs.Replies.{Said, accepted, Outcome, outcome}
 use Rattle.replies.specs.Places.{firstPlace}
 use Rattle.replies.specs.Tests.{neither, passed}
 use Rattle.ground.specs.declared.Point.{Point}
@@ -207,6 +207,12 @@ pub record Coded (room numbers : List ℕ) (kind : Kind) (number : ℕ) : Type 0
   pub passing : Passing (cornersOf numbers) number cell
   pub written : coding room numbers kind number ≡ writing room (unitFields (cornersOf numbers) number cell)
 
+-- What reading tells of a unit's code: acceptance, and a rectangle that covers the unit, every corner within it
+pub record ReadBack (corners : List Point) (told : Told) : Type 0 where
+  pub said : told .said ≡ accepted
+  pub covers : Covers (extremesOf corners) (told .rectangle) (sizeOf (told .fields .scale))
+  pub held : (i : ℕ) → i < length corners → (d : Point) → Holds (told .rectangle) (getD corners i d)
+
 module _ (room numbers : List ℕ) (kind : Kind) (number : ℕ)
     (found : (c : Cell) → choose (cornersOf numbers) ≡ At c → IsCell c × (inside (cornersOf numbers) c ≡ true)) where
   -- Coding that accepts codes its unit
@@ -252,3 +258,19 @@ module _ (room numbers : List ℕ) (kind : Kind) (number : ℕ)
                 ∙ sym (good-writing room (unitFields (cornersOf numbers) number c) long (fields-good passing));
           }
       at Nowhere chosen long range lat lon unit some spans = absurd (true≢false some)
+
+  -- Bytes 0 to 19 of the room then tell the fields of the unit
+  pub reading-coded : (e : coding room numbers kind number .said ≡ accepted)
+      → reading (take 20 (coding room numbers kind number .room)) ≡ tellsOf (unitFields (cornersOf numbers) number (coded e .cell))
+  reading-coded e =
+      let w = coded e .written in
+      ap (λ (o : Outcome). reading (take 20 (o .room))) w
+      ∙ reading-written room (unitFields (cornersOf numbers) number (coded e .cell)) (ap (λ (o : Outcome). o .said) (sym w) ∙ e)
+
+  -- and a rectangle that covers it
+  pub read-back : coding room numbers kind number .said ≡ accepted
+      → ReadBack (cornersOf numbers) (reading (take 20 (coding room numbers kind number .room)))
+  read-back e =
+      let p = coded e .passing in
+      subst (ReadBack (cornersOf numbers)) (sym (reading-coded e))
+      (record { said = refl; covers = fields-cover p; held = corners-held p })
