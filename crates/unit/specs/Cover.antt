@@ -1,9 +1,10 @@
 -- The rectangle read back covers the unit (document 01, "Four spans" and "Reading back"): the fields of a cell that is inside are good,
--- and each side lies at or beyond the unit's own extreme, by less than s. Assumes nothing.
+-- each side lies at or beyond the unit's own extreme, by less than s, and so it is with the bytes that coding leaves. Assumes nothing.
 use Prim.Native.Nat.{ℕ, zero, suc, _+_, _-_, _*_, _/_, _≤_, _<_, min, max}
-use native.Mathlib.Nat.{div-mul-le-self, lt-div-mul-add}
+use native.Mathlib.Nat.{div-mul-le-self, div-lt-iff-lt-mul, lt-div-mul-add}
 use native.Mathlib.Omega.{arith}
 use mathlib.Core.Path.{_≡_, refl, ap, ap₂, sym, subst, _∙_}
+use mathlib.Core.Logic.{_↔_}
 use mathlib.Core.Bool.{Bool, true, false, cond, _||_, true≢false}
 use mathlib.Core.List.{List, [], _∷_, map}
 use lib.Dec.{eqb, ltb}
@@ -42,6 +43,7 @@ pub record Rounded (s d n : ℕ) : Type 0 where
   pub reaches : d ≤ (n - 1) * s
   pub short : (n - 1) * s < d + s
 
+-- A distance, divided by s and rounded up, plus 1, is so many
 pub rounded : (s d : ℕ) → 0 < s → Rounded s d (spanCells s d)
 rounded s d h =
     let q : ℕ = (d + (s - 1)) / s in
@@ -49,6 +51,12 @@ rounded s d h =
     let most : q * s ≤ d + (s - 1) = div-mul-le-self (d + (s - 1)) s in
     let above : d + (s - 1) < q * s + s = lt-div-mul-add h in
     record { some = omega arith; reaches = rw less (omega arith); short = rw less (omega arith) }
+
+-- A span is at most 31 exactly where the distance is at most 30 cells
+pub within-31 : (s d : ℕ) → 0 < s → (spanCells s d ≤ 31) ↔ (d ≤ 30 * s)
+within-31 s d some =
+    let t : ((d + (s - 1)) / s < 31) ↔ (d + (s - 1) < 31 * s) = div-lt-iff-lt-mul some in
+    (λ h. omega (arith, t .0 (omega arith)), λ h. omega (arith, t .1 (omega arith)))
 
 -- Two sides at or beyond two ends, by less than s
 pub record Beyond (s a b low high : ℕ) : Type 0 where
@@ -84,7 +92,13 @@ pub record Passing (corners : List Point) (number : ℕ) (c : Cell) : Type 0 whe
   pub unit : number ≤ 1048575
   pub spans : above31 (unitFields corners number c) ≡ false
 
--- The greatest angle of corners that have at most so much is at most that
+-- A corner that check 4 does not refuse is within the range
+in-range : (v : Point) → aboveRange v ≡ false → (v .lat .0 ≤ latEnd) × (v .lon .0 ≤ lonEnd)
+in-range v e =
+    let t = neither (ltb latEnd (v .lat .0)) (ltb lonEnd (v .lon .0)) e in
+    (ltb-false latEnd (v .lat .0) (t .0), ltb-false lonEnd (v .lon .0) (t .1))
+
+-- What each corner has at most, the greatest is at most
 greatest-most : (f : Point → ℕ) (P : Point → Type 0) (end : ℕ) → ((v : Point) → P v → f v ≤ end) → (corners : List Point)
     → Each P corners → greatest (map f corners) ≤ end
 greatest-most f P end so [] t = omega arith
@@ -120,16 +134,12 @@ module _ {corners : List Point} {number : ℕ} {c : Cell} (p : Passing corners n
   north-end : extremesOf corners .north .0 ≤ latEnd
   unfolding extremesOf
   north-end =
-      greatest-most (λ v. v .lat .0) (λ v. aboveRange v ≡ false) latEnd
-      (λ v e. ltb-false latEnd (v .lat .0) (neither (ltb latEnd (v .lat .0)) (ltb lonEnd (v .lon .0)) e .0))
-      corners (p .range)
+      greatest-most (λ v. v .lat .0) (λ v. aboveRange v ≡ false) latEnd (λ v e. in-range v e .0) corners (p .range)
 
   east-end : extremesOf corners .east .0 ≤ lonEnd
   unfolding extremesOf
   east-end =
-      greatest-most (λ v. v .lon .0) (λ v. aboveRange v ≡ false) lonEnd
-      (λ v e. ltb-false lonEnd (v .lon .0) (neither (ltb latEnd (v .lat .0)) (ltb lonEnd (v .lon .0)) e .1))
-      corners (p .range)
+      greatest-most (λ v. v .lon .0) (λ v. aboveRange v ≡ false) lonEnd (λ v e. in-range v e .1) corners (p .range)
 
   -- The reference lies between the extremes
   placed-lat : Placed (extremesOf corners .south .0) (extremesOf corners .north .0) (cornerOf (locationCell c) .lat .0)
@@ -138,7 +148,7 @@ module _ {corners : List Point} {number : ℕ} {c : Cell} (p : Passing corners n
   placed-lon : Placed (extremesOf corners .west .0) (extremesOf corners .east .0) (cornerOf (locationCell c) .lon .0)
   placed-lon = reference-lon corners c (p .cell) (p .within)
 
-  -- Its fields are good
+  -- The fields of the cell are good
   pub fields-good : Good (unitFields corners number c)
   unfolding fieldsOf
   fields-good =
@@ -185,7 +195,7 @@ module _ {corners : List Point} {number : ℕ} {c : Cell} (p : Passing corners n
         north = omega (arith, k .lat .above, held .north);
       }
 
--- A list in which no element is met that passes a test has none
+-- Where the first element that passes a test is past the end, none does
 none-such : {A : Type 0} (test : A → Bool) (xs : List A) → length xs ≤ firstPlace test xs → Each (λ (x : A). test x ≡ false) xs
 none-such test [] h = tt
 none-such {A} test (x ∷ xs) h = at (test x) refl h (none-such test xs)
@@ -215,7 +225,7 @@ pub record ReadBack (corners : List Point) (told : Told) : Type 0 where
 
 module _ (room numbers : List ℕ) (kind : Kind) (number : ℕ)
     (found : (c : Cell) → choose (cornersOf numbers) ≡ At c → IsCell c × (inside (cornersOf numbers) c ≡ true)) where
-  -- Coding that accepts codes its unit
+  -- Where the cell found is a cell that is inside, coding that accepts codes its unit
   pub coded : coding room numbers kind number .said ≡ accepted → Coded room numbers kind number
   unfolding coding cornerChecks
   coded e =
