@@ -1,17 +1,15 @@
 -- A cell that is inside lies within the unit's extents (document 01, "The cell inside" and "Scale"), and so does its reference; each
 -- distance is at most the extent, and the spans are at least what reading asks of them. Assumes nothing.
-use Prim.Native.Nat.{ℕ, zero, suc, _+_, _-_, _*_, _/_, _≤_, _<_, min, max}
+use Prim.Native.Nat.{ℕ, _+_, _-_, _/_, _≤_, _<_, min, max}
 use native.Mathlib.Nat.{le-div-iff-mul-le}
 use native.Mathlib.Omega.{arith}
 use mathlib.Core.Path.{_≡_, sym, _∙_}
 use mathlib.Core.Logic.{_⊎_, inl, inr}
-use mathlib.Core.Bool.{Bool, true, false, cond, true≢false}
+use mathlib.Core.Bool.{true, false, true≢false}
 use mathlib.Core.List.{List, [], _∷_, map}
-use lib.Dec.{ltb}
 use Rattle.ground.specs.declared.Point.{Point}
 use Rattle.ground.specs.declared.Cell.{Cell}
 use Rattle.ground.specs.Levels.{lat, lon, sizeOf}
-use Rattle.ground.specs.Sizes.{size-least}
 use Rattle.ground.specs.Cells.{sidesOf, IsCell, locationCell, cornerOf}
 use Rattle.ground.specs.CellLaws.{Whole, sides-32, Placed, located}
 use Rattle.code.specs.declared.Fields.{Fields}
@@ -23,14 +21,15 @@ use Rattle.boundary.specs.Parity.{Lies}
 use Rattle.boundary.specs.Inner.{inside-point}
 use Rattle.boundary.specs.Apart.{west-apart, east-apart, south-apart, north-apart}
 use Rattle.unit.specs.Extents.{leastFrom, greatestFrom, least, greatest, extremesOf, spanOf}
-use Rattle.unit.specs.Unit.{scaleFrom, scaleOf, distance, spanCells, fieldsOf}
+use Rattle.unit.specs.Unit.{scaleOf, distance, spanCells, fieldsOf}
+use Rattle.unit.specs.Scale.{scale-size}
 
 -- The least of some angles is at most each
 least-from : (x : ℕ) (ys : List ℕ) → (leastFrom x ys ≤ x) × Each (λ (y : ℕ). leastFrom x ys ≤ y) ys
 least-from x [] = (omega arith, tt)
 least-from x (y ∷ ys) = let t = least-from (min x y) ys in (omega (arith, t .0), (omega (arith, t .0), t .1))
 
-least-each : (xs : List ℕ) → Each (λ (y : ℕ). least xs ≤ y) xs
+pub least-each : (xs : List ℕ) → Each (λ (y : ℕ). least xs ≤ y) xs
 least-each [] = tt
 least-each (x ∷ xs) = least-from x xs
 
@@ -39,7 +38,7 @@ greatest-from : (x : ℕ) (ys : List ℕ) → (x ≤ greatestFrom x ys) × Each 
 greatest-from x [] = (omega arith, tt)
 greatest-from x (y ∷ ys) = let t = greatest-from (max x y) ys in (omega (arith, t .0), (omega (arith, t .0), t .1))
 
-greatest-each : (xs : List ℕ) → Each (λ (y : ℕ). y ≤ greatest xs) xs
+pub greatest-each : (xs : List ℕ) → Each (λ (y : ℕ). y ≤ greatest xs) xs
 greatest-each [] = tt
 greatest-each (x ∷ xs) = greatest-from x xs
 
@@ -129,16 +128,6 @@ spans-least {a} {b} {r} s some h =
     let one : 1 ≤ (distance r b + (s - 1)) / s = le-div-iff-mul-le some .1 (omega arith) in
     (omega arith, omega arith)
 
--- A scale is a level
-scale-level : (span n : ℕ) → (9 ≤ scaleFrom span n) × (scaleFrom span n ≤ 9 + n)
-scale-level span zero = (omega arith, omega arith)
-scale-level span (suc n) = at (ltb span (sizeOf (10 + n) * 32)) (scale-level span n)
-  where
-    at : (b : Bool) → (9 ≤ scaleFrom span n) × (scaleFrom span n ≤ 9 + n)
-        → (9 ≤ cond b (10 + n) (scaleFrom span n)) × (cond b (10 + n) (scaleFrom span n) ≤ 9 + suc n)
-    at true t = (omega arith, omega arith)
-    at false t = (omega arith, omega arith)
-
 -- The spans of fields are at least what reading asks of them
 pub record SpansLeast (f : Fields) : Type 0 where
   pub east : 2 ≤ f .east
@@ -149,11 +138,10 @@ pub record SpansLeast (f : Fields) : Type 0 where
 -- and so are those of a cell that is inside
 pub fields-least : (corners : List Point) (number : ℕ) (c : Cell) → IsCell c → inside corners c ≡ true
     → SpansLeast (fieldsOf (extremesOf corners) number c)
-unfolding fieldsOf scaleOf
+unfolding fieldsOf
 fields-least corners number c is t =
     let s : ℕ = sizeOf (scaleOf (spanOf (extremesOf corners))) in
-    let level = scale-level (spanOf (extremesOf corners)) 18 in
-    let some : 0 < s = omega (arith, size-least (scaleOf (spanOf (extremesOf corners))) (level .0) (omega arith)) in
+    let some : 0 < s = omega (arith, scale-size (spanOf (extremesOf corners))) in
     let lon = spans-least s some (reference-lon corners c is t) in
     let lat = spans-least s some (reference-lat corners c is t) in
     record { east = lon .1; west = lon .0; south = lat .0; north = lat .1 }

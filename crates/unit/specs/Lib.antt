@@ -1,7 +1,9 @@
 pub mod Extents
 pub mod Chosen
 pub mod Unit
+pub mod Scale
 pub mod InExtents
 pub mod SameGround
 pub mod Widening
 pub mod Scaling
+pub mod Cover

@@ -1,0 +1,286 @@
+-- The rectangle read back covers the unit (document 01, "Four spans" and "Reading back"): the fields of a cell that is inside are good,
+-- each side lies at or beyond the unit's own extreme, by less than s, and so it is with the bytes that coding leaves. Assumes nothing.
+use Prim.Native.Nat.{ℕ, zero, suc, _+_, _-_, _*_, _/_, _≤_, _<_, min, max}
+use native.Mathlib.Nat.{div-mul-le-self, div-lt-iff-lt-mul, lt-div-mul-add}
+use native.Mathlib.Omega.{arith}
+use mathlib.Core.Path.{_≡_, refl, ap, ap₂, sym, subst, _∙_}
+use mathlib.Core.Logic.{_↔_}
+use mathlib.Core.Bool.{Bool, true, false, cond, _||_, true≢false}
+use mathlib.Core.List.{List, [], _∷_, map}
+use lib.Dec.{eqb, ltb}
+use lib.ListN.{length, getD, take}
+use borrow.Author.Tests.{ltb-false, eqb-true, not-false}
+use Rattle.replies.specs.Replies.{Said, accepted, Outcome, outcome}
+use Rattle.replies.specs.Places.{firstPlace}
+use Rattle.replies.specs.Tests.{neither, passed}
+use Rattle.ground.specs.declared.Point.{Point}
+use Rattle.ground.specs.declared.Rectangle.{Rectangle}
+use Rattle.ground.specs.declared.Cell.{Cell}
+use Rattle.ground.specs.Levels.{degree, latEnd, lonEnd, sizeOf}
+use Rattle.ground.specs.Cells.{IsCell, locationCell, cornerOf}
+use Rattle.ground.specs.CellLaws.{Placed}
+use Rattle.code.specs.declared.Fields.{Fields}
+use Rattle.code.specs.Code.{codeOf, rectangleOf, writing, reading, Told, tellsOf}
+use Rattle.code.specs.Writing.{within, Good, good-writing}
+use Rattle.code.specs.Reverse.{reading-code, reading-written}
+use Rattle.boundary.specs.Corners.{cornersOf}
+use Rattle.boundary.specs.Boundary.{inside}
+use Rattle.boundary.specs.Missing.{Holds}
+use Rattle.boundary.specs.Odd.{Each}
+use Rattle.unit.specs.declared.Kind.{Kind}
+use Rattle.unit.specs.declared.Kind.the-variants.{Building, Other}
+use Rattle.unit.specs.declared.Choice.{Choice}
+use Rattle.unit.specs.declared.Choice.the-variants.{At, Nowhere}
+use Rattle.unit.specs.Extents.{greatestFrom, greatest, lats, lons, extremesOf, latExtent, lonExtent, spanOf}
+use Rattle.unit.specs.Chosen.{choose}
+use Rattle.unit.specs.Unit.{scaleOf, distance, spanCells, fieldsOf, aboveRange, badNumber, noCell, above31, spanAbove, codeAt, cornerChecks, codeChecks, coding}
+use Rattle.unit.specs.Scale.{scale-size, scale-written}
+use Rattle.unit.specs.InExtents.{least-each, greatest-each, reference-lat, reference-lon, fields-least}
+
+-- So many cells of size s, less one, reach a distance, by less than s beyond it
+pub record Rounded (s d n : ℕ) : Type 0 where
+  pub some : 1 ≤ n
+  pub reaches : d ≤ (n - 1) * s
+  pub short : (n - 1) * s < d + s
+
+-- A distance, divided by s and rounded up, plus 1, is so many
+pub rounded : (s d : ℕ) → 0 < s → Rounded s d (spanCells s d)
+rounded s d h =
+    let q : ℕ = (d + (s - 1)) / s in
+    let less : q + 1 - 1 ≡ q = omega arith in
+    let most : q * s ≤ d + (s - 1) = div-mul-le-self (d + (s - 1)) s in
+    let above : d + (s - 1) < q * s + s = lt-div-mul-add h in
+    record { some = omega arith; reaches = rw less (omega arith); short = rw less (omega arith) }
+
+-- A span is at most 31 exactly where the distance is at most 30 cells
+pub within-31 : (s d : ℕ) → 0 < s → (spanCells s d ≤ 31) ↔ (d ≤ 30 * s)
+within-31 s d some =
+    let t : ((d + (s - 1)) / s < 31) ↔ (d + (s - 1) < 31 * s) = div-lt-iff-lt-mul some in
+    (λ h. omega (arith, t .0 (omega arith)), λ h. omega (arith, t .1 (omega arith)))
+
+-- Two sides at or beyond two ends, by less than s
+pub record Beyond (s a b low high : ℕ) : Type 0 where
+  pub below : low ≤ a
+  pub near-below : a < low + s
+  pub above : b ≤ high
+  pub near-above : high < b + s
+
+-- The sides that reading back gives, in either direction, lie so
+beyond : {a b r : ℕ} (s end : ℕ) → 0 < s → Placed a b r → b ≤ end
+    → Beyond s a b (r - (spanCells s (distance r a) - 1) * s) (min (r + (spanCells s (distance r b) - 1) * s) end)
+beyond {a} {b} {r} s end h p k =
+    let low = rounded s (distance r a) h in
+    let high = rounded s (distance r b) h in
+    record { below = omega arith; near-below = omega arith; above = omega arith; near-above = omega arith }
+
+-- A rectangle whose sides lie at or beyond those of another, by less than s
+pub record Covers (r around : Rectangle) (s : ℕ) : Type 0 where
+  pub lon : Beyond s (r .west .0) (r .east .0) (around .west .0) (around .east .0)
+  pub lat : Beyond s (r .south .0) (r .north .0) (around .south .0) (around .north .0)
+
+-- The fields of a unit's corners, number and cell
+abbrev pub unitFields : List Point → ℕ → Cell → Fields
+unitFields corners number c = fieldsOf (extremesOf corners) number c
+
+-- A cell that is inside a unit whose corners, extents, number and spans no check refuses
+pub record Passing (corners : List Point) (number : ℕ) (c : Cell) : Type 0 where
+  pub cell : IsCell c
+  pub within : inside corners c ≡ true
+  pub range : Each (λ (v : Point). aboveRange v ≡ false) corners
+  pub lat : latExtent (extremesOf corners) ≤ degree
+  pub lon : lonExtent (extremesOf corners) ≤ degree
+  pub unit : number ≤ 1048575
+  pub spans : above31 (unitFields corners number c) ≡ false
+
+-- A corner that check 4 does not refuse is within the range
+in-range : (v : Point) → aboveRange v ≡ false → (v .lat .0 ≤ latEnd) × (v .lon .0 ≤ lonEnd)
+in-range v e =
+    let t = neither (ltb latEnd (v .lat .0)) (ltb lonEnd (v .lon .0)) e in
+    (ltb-false latEnd (v .lat .0) (t .0), ltb-false lonEnd (v .lon .0) (t .1))
+
+-- What each corner has at most, the greatest is at most
+greatest-most : (f : Point → ℕ) (P : Point → Type 0) (end : ℕ) → ((v : Point) → P v → f v ≤ end) → (corners : List Point)
+    → Each P corners → greatest (map f corners) ≤ end
+greatest-most f P end so [] t = omega arith
+greatest-most f P end so (v ∷ vs) t = from (f v) (so v (t .0)) vs (t .1)
+  where
+    from : (x : ℕ) → x ≤ end → (vs : List Point) → Each P vs → greatestFrom x (map f vs) ≤ end
+    from x h [] t = h
+    from x h (v ∷ vs) t = from (max x (f v)) (omega (arith, so v (t .0))) vs (t .1)
+
+-- What each element of a list is, the one at a place is
+each-at : {A : Type 0} (P : A → Type 0) (xs : List A) → Each P xs → (i : ℕ) → i < length xs → (d : A) → P (getD xs i d)
+each-at P [] t i h d = let none : ⊥ = omega arith in absurd none
+each-at P (x ∷ xs) t zero h d = t .0
+each-at P (x ∷ xs) t (suc i) h d = each-at P xs (t .1) i (omega arith) d
+
+-- A rectangle holds each of the corners whose angles are between its sides
+hold-each : (r : Rectangle) (corners : List Point) → Each (λ (x : ℕ). r .west .0 ≤ x) (lons corners)
+    → Each (λ (x : ℕ). x ≤ r .east .0) (lons corners) → Each (λ (y : ℕ). r .south .0 ≤ y) (lats corners)
+    → Each (λ (y : ℕ). y ≤ r .north .0) (lats corners) → Each (Holds r) corners
+hold-each r [] w e s n = tt
+hold-each r (v ∷ vs) w e s n =
+    (record { west = w .0; east = e .0; south = s .0; north = n .0 }, hold-each r vs (w .1) (e .1) (s .1) (n .1))
+
+-- The unit's extremes hold each corner
+extremes-hold : (corners : List Point) → Each (Holds (extremesOf corners)) corners
+unfolding extremesOf
+extremes-hold corners =
+    hold-each (extremesOf corners) corners (least-each (lons corners)) (greatest-each (lons corners)) (least-each (lats corners))
+    (greatest-each (lats corners))
+
+module _ {corners : List Point} {number : ℕ} {c : Cell} (p : Passing corners number c) where
+  -- The unit's greatest latitude and longitude are within the range
+  north-end : extremesOf corners .north .0 ≤ latEnd
+  unfolding extremesOf
+  north-end =
+      greatest-most (λ v. v .lat .0) (λ v. aboveRange v ≡ false) latEnd (λ v e. in-range v e .0) corners (p .range)
+
+  east-end : extremesOf corners .east .0 ≤ lonEnd
+  unfolding extremesOf
+  east-end =
+      greatest-most (λ v. v .lon .0) (λ v. aboveRange v ≡ false) lonEnd (λ v e. in-range v e .1) corners (p .range)
+
+  -- The reference lies between the extremes
+  placed-lat : Placed (extremesOf corners .south .0) (extremesOf corners .north .0) (cornerOf (locationCell c) .lat .0)
+  placed-lat = reference-lat corners c (p .cell) (p .within)
+
+  placed-lon : Placed (extremesOf corners .west .0) (extremesOf corners .east .0) (cornerOf (locationCell c) .lon .0)
+  placed-lon = reference-lon corners c (p .cell) (p .within)
+
+  -- The fields of the cell are good
+  pub fields-good : Good (unitFields corners number c)
+  unfolding fieldsOf
+  fields-good =
+      let f : Fields = unitFields corners number c in
+      let least = fields-least corners number c (p .cell) (p .within) in
+      let ew-sn = neither (ltb 31 (f .east) || ltb 31 (f .west)) (ltb 31 (f .south) || ltb 31 (f .north)) (p .spans) in
+      let ew = neither (ltb 31 (f .east)) (ltb 31 (f .west)) (ew-sn .0) in
+      let sn = neither (ltb 31 (f .south)) (ltb 31 (f .north)) (ew-sn .1) in
+      record {
+        lat = record { whole = placed-lat .whole; below = omega (arith, placed-lat .high, north-end) };
+        lon = record { whole = placed-lon .whole; below = omega (arith, placed-lon .high, east-end) };
+        scale = scale-written (spanOf (extremesOf corners)) (omega (arith, p .lat, p .lon));
+        east = (least .east, ltb-false 31 (f .east) (ew .0));
+        north = (least .north, ltb-false 31 (f .north) (sn .1));
+        west = (least .west, ltb-false 31 (f .west) (ew .1));
+        south = (least .south, ltb-false 31 (f .south) (sn .0));
+        number = p .unit;
+      }
+
+  -- and are read back from their code
+  pub reading-fields : reading (codeOf (unitFields corners number c)) ≡ tellsOf (unitFields corners number c)
+  reading-fields = reading-code (unitFields corners number c) fields-good
+
+  -- Their rectangle's sides lie at or beyond the unit's own extremes, by less than the scale's size
+  pub fields-cover : Covers (extremesOf corners) (rectangleOf (unitFields corners number c)) (sizeOf (unitFields corners number c .scale))
+  unfolding rectangleOf fieldsOf
+  fields-cover =
+      let span : ℕ = spanOf (extremesOf corners) in
+      let some : 0 < sizeOf (scaleOf span) = omega (arith, scale-size span) in
+      record {
+        lon = beyond (sizeOf (scaleOf span)) lonEnd some placed-lon east-end;
+        lat = beyond (sizeOf (scaleOf span)) latEnd some placed-lat north-end;
+      }
+
+  -- Every corner lies within that rectangle
+  pub corners-held : (i : ℕ) → i < length corners → (d : Point) → Holds (rectangleOf (unitFields corners number c)) (getD corners i d)
+  corners-held i h d =
+      let held = each-at (Holds (extremesOf corners)) corners (extremes-hold corners) i h d in
+      let k = fields-cover in
+      record {
+        west = omega (arith, k .lon .below, held .west);
+        east = omega (arith, k .lon .above, held .east);
+        south = omega (arith, k .lat .below, held .south);
+        north = omega (arith, k .lat .above, held .north);
+      }
+
+-- Where the first element that passes a test is past the end, none does
+none-such : {A : Type 0} (test : A → Bool) (xs : List A) → length xs ≤ firstPlace test xs → Each (λ (x : A). test x ≡ false) xs
+none-such test [] h = tt
+none-such {A} test (x ∷ xs) h = at (test x) refl h (none-such test xs)
+  where
+    at : (b : Bool) → test x ≡ b → length (x ∷ xs) ≤ cond b 0 (suc (firstPlace test xs))
+        → (length xs ≤ firstPlace test xs → Each (λ (x : A). test x ≡ false) xs) → (test x ≡ false) × Each (λ (x : A). test x ≡ false) xs
+    at true e k ih = let none : ⊥ = omega arith in absurd none
+    at false e k ih = (e, ih (omega arith))
+
+-- A number that check 6 does not refuse is at most 1,048,575
+number-most : (kind : Kind) (number : ℕ) → badNumber kind number ≡ false → number ≤ 1048575
+number-most Building number e = within 1 1048575 number e .1
+number-most Other number e = let none : number ≡ 0 = eqb-true number 0 (not-false (eqb number 0) e) in omega arith
+
+-- A unit coded: its cell, with which no check refuses, and coding is writing from its fields
+pub record Coded (room numbers : List ℕ) (kind : Kind) (number : ℕ) : Type 0 where
+  pub cell : Cell
+  pub chosen : choose (cornersOf numbers) ≡ At cell
+  pub passing : Passing (cornersOf numbers) number cell
+  pub written : coding room numbers kind number ≡ writing room (unitFields (cornersOf numbers) number cell)
+
+-- What reading tells of a unit's code: acceptance, and a rectangle that covers the unit, every corner within it
+pub record ReadBack (corners : List Point) (told : Told) : Type 0 where
+  pub said : told .said ≡ accepted
+  pub covers : Covers (extremesOf corners) (told .rectangle) (sizeOf (told .fields .scale))
+  pub held : (i : ℕ) → i < length corners → (d : Point) → Holds (told .rectangle) (getD corners i d)
+
+module _ (room numbers : List ℕ) (kind : Kind) (number : ℕ)
+    (found : (c : Cell) → choose (cornersOf numbers) ≡ At c → IsCell c × (inside (cornersOf numbers) c ≡ true)) where
+  -- Where the cell found is a cell that is inside, coding that accepts codes its unit
+  pub coded : coding room numbers kind number .said ≡ accepted → Coded room numbers kind number
+  unfolding coding cornerChecks
+  coded e =
+      let corners : List Point = cornersOf numbers in
+      let r : Rectangle = extremesOf corners in
+      let p = passed (codeChecks room numbers kind number) tt (ap (λ (s : Said). s .number) e) in
+      let q = p .1 .1 .1 in
+      let extents = neither (ltb 7372800 (latExtent r)) (ltb 7372800 (lonExtent r)) (q .1 .0) in
+      at (choose corners) refl
+      (ltb-false (length room) 20 (p .0))
+      (none-such aboveRange corners (ltb-false (firstPlace aboveRange corners) (length corners) (q .0)))
+      (ltb-false 7372800 (latExtent r) (extents .0))
+      (ltb-false 7372800 (lonExtent r) (extents .1))
+      (number-most kind number (q .1 .1 .0))
+      (q .1 .1 .1 .0)
+      (q .1 .1 .1 .1 .0)
+    where
+      at : (choice : Choice) → choose (cornersOf numbers) ≡ choice → 20 ≤ length room
+          → Each (λ (v : Point). aboveRange v ≡ false) (cornersOf numbers)
+          → latExtent (extremesOf (cornersOf numbers)) ≤ degree → lonExtent (extremesOf (cornersOf numbers)) ≤ degree
+          → number ≤ 1048575 → noCell choice ≡ false → spanAbove (extremesOf (cornersOf numbers)) number choice ≡ false
+          → Coded room numbers kind number
+      at (At c) chosen long range lat lon unit some spans =
+          let is = found c chosen in
+          let passing : Passing (cornersOf numbers) number c = record {
+            cell = is .0;
+            within = is .1;
+            range = range;
+            lat = lat;
+            lon = lon;
+            unit = unit;
+            spans = spans;
+          } in
+          record {
+            cell = c;
+            chosen = chosen;
+            passing = passing;
+            written =
+                ap₂ (λ (said : Said) (choice : Choice). outcome said (codeAt (extremesOf (cornersOf numbers)) number choice) room) e chosen
+                ∙ sym (good-writing room (unitFields (cornersOf numbers) number c) long (fields-good passing));
+          }
+      at Nowhere chosen long range lat lon unit some spans = absurd (true≢false some)
+
+  -- Bytes 0 to 19 of the room then tell the fields of the unit
+  pub reading-coded : (e : coding room numbers kind number .said ≡ accepted)
+      → reading (take 20 (coding room numbers kind number .room)) ≡ tellsOf (unitFields (cornersOf numbers) number (coded e .cell))
+  reading-coded e =
+      let w = coded e .written in
+      ap (λ (o : Outcome). reading (take 20 (o .room))) w
+      ∙ reading-written room (unitFields (cornersOf numbers) number (coded e .cell)) (ap (λ (o : Outcome). o .said) (sym w) ∙ e)
+
+  -- and a rectangle that covers it
+  pub read-back : coding room numbers kind number .said ≡ accepted
+      → ReadBack (cornersOf numbers) (reading (take 20 (coding room numbers kind number .room)))
+  read-back e =
+      let p = coded e .passing in
+      subst (ReadBack (cornersOf numbers)) (sym (reading-coded e))
+      (record { said = refl; covers = fields-cover p; held = corners-held p })
