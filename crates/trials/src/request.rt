@@ -10,7 +10,7 @@ use lines::Line;
 use lines::Numbers;
 
 // More numbers than a line has: each takes a space and a digit.
-const MOST: usize = 12288;
+const MOST: usize = lines::LONGEST / 2;
 
 // The answer to a line, and a line feed.
 pub(crate) fn answer_line(line: Line, room: &[u8], out: &mut [u8], at: usize) -> usize {
@@ -47,10 +47,7 @@ fn answer(text: &[u8], out: &mut [u8], at: usize) -> usize {
 // `write ROOM LAT LON SCALE E W S N NUMBER`: the room has that many bytes `.`, 64 at most.
 fn answer_write(text: &[u8], out: &mut [u8], at: usize) -> usize {
     let mut numbers = [0u32; 9];
-    let found = lines::numbers_at(text, 5, &mut numbers);
-    let Numbers::Count(count) = found else {
-        return lines::put(out, at, b"?");
-    };
+    let count = count_in(text, 5, &mut numbers);
     if count != 9 {
         return lines::put(out, at, b"?");
     }
@@ -138,10 +135,7 @@ fn put_after_space(out: &mut [u8], at: usize, n: u32) -> usize {
 // `meets ALAT ALON BLAT BLON WEST EAST SOUTH NORTH`: whether the edge from A to B meets the rectangle.
 fn answer_meets(text: &[u8], out: &mut [u8], at: usize) -> usize {
     let mut numbers = [0u32; 8];
-    let found = lines::numbers_at(text, 5, &mut numbers);
-    let Numbers::Count(count) = found else {
-        return lines::put(out, at, b"?");
-    };
+    let count = count_in(text, 5, &mut numbers);
     if count != 8 {
         return lines::put(out, at, b"?");
     }
@@ -165,20 +159,11 @@ fn answer_meets(text: &[u8], out: &mut [u8], at: usize) -> usize {
 // `odd LAT LON COORDINATE..`: whether the point has an odd count.
 fn answer_odd(text: &[u8], out: &mut [u8], at: usize) -> usize {
     let mut numbers = [0u32; MOST];
-    let found = lines::numbers_at(text, 3, &mut numbers);
-    let Numbers::Count(count) = found else {
-        return lines::put(out, at, b"?");
-    };
-    if numbers.len() < count {
+    let count = count_in(text, 3, &mut numbers);
+    if count < 2 {
         return lines::put(out, at, b"?");
     }
-    odd_of(&numbers[0..count], out, at)
-}
-
-// The same of its numbers.
-fn odd_of(numbers: &[u32], out: &mut [u8], at: usize) -> usize {
-    let count = numbers.len();
-    if count < 2 {
+    if numbers.len() < count {
         return lines::put(out, at, b"?");
     }
     let point = Point {
@@ -191,20 +176,11 @@ fn odd_of(numbers: &[u32], out: &mut [u8], at: usize) -> usize {
 // `inside LEVEL WEST SOUTH COORDINATE..`: whether the cell is inside.
 fn answer_inside(text: &[u8], out: &mut [u8], at: usize) -> usize {
     let mut numbers = [0u32; MOST];
-    let found = lines::numbers_at(text, 6, &mut numbers);
-    let Numbers::Count(count) = found else {
-        return lines::put(out, at, b"?");
-    };
-    if numbers.len() < count {
+    let count = count_in(text, 6, &mut numbers);
+    if count < 3 {
         return lines::put(out, at, b"?");
     }
-    inside_of(&numbers[0..count], out, at)
-}
-
-// The same of its numbers.
-fn inside_of(numbers: &[u32], out: &mut [u8], at: usize) -> usize {
-    let count = numbers.len();
-    if count < 3 {
+    if numbers.len() < count {
         return lines::put(out, at, b"?");
     }
     let cell = Cell {
@@ -213,6 +189,17 @@ fn inside_of(numbers: &[u32], out: &mut [u8], at: usize) -> usize {
         south: Lat(numbers[2]),
     };
     put_truth(boundary::inside(&numbers[3..count], cell), out, at)
+}
+
+// Puts the numbers of a line from a position on into the room and counts them; 0 where anything else
+// stands there.
+fn count_in(text: &[u8], at: usize, room: &mut [u32]) -> usize {
+    let found = lines::numbers_at(text, at, room);
+    if let Numbers::Count(count) = found {
+        count
+    } else {
+        0
+    }
 }
 
 fn put_truth(truth: bool, out: &mut [u8], at: usize) -> usize {
