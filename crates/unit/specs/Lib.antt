@@ -2,3 +2,4 @@ pub mod Extents
 pub mod Chosen
 pub mod Unit
 pub mod InExtents
+pub mod Choosing
