@@ -60,3 +60,105 @@ one-chosen corners {c} {d} h k = at (one-before c d)
     at (inl b) = absurd (k .first c (h .cell) (h .within) b)
     at (inr (inl b)) = absurd (h .first d (k .cell) (k .within) b)
     at (inr (inr e)) = e
+
+-- A number of a list
+abbrev pub In : ℕ → List ℕ → Type 0
+In a [] = ⊥
+In a (x ∷ xs) = (a ≡ x) ⊎ In a xs
+
+-- A list in increasing order: each entry is below all later ones
+abbrev pub Rising : List ℕ → Type 0
+Rising [] = Unit {0}
+Rising (x ∷ xs) = Each (λ (y : ℕ). x < y) xs × Rising xs
+
+-- What holds of each entry of a list holds of one
+each-in : (P : ℕ → Type 0) (xs : List ℕ) (a : ℕ) → Each P xs → In a xs → P a
+each-in P [] a t m = absurd m
+each-in P (x ∷ xs) a t (inl e) = subst P (sym e) (t .0)
+each-in P (x ∷ xs) a t (inr m) = each-in P xs a (t .1) m
+
+-- What follows for each number follows for each entry
+each-so : (P Q : ℕ → Type 0) → ((x : ℕ) → P x → Q x) → (xs : List ℕ) → Each P xs → Each Q xs
+each-so P Q so [] t = tt
+each-so P Q so (x ∷ xs) t = (so x (t .0), each-so P Q so xs (t .1))
+
+-- A low side of a level between two ends, the first included
+pub record Side (level from to a : ℕ) : Type 0 where
+  pub is : lowSide level a ≡ a
+  pub least : from ≤ a
+  pub below : a < to
+
+module _ (level : ℕ) (coarsest : 9 ≤ level) (finest : level ≤ 27) where
+  -- The sides from a low side on are low sides from it on and below the end
+  from-sides : (n a end : ℕ) → lowSide level a ≡ a → Each (Side level a end) (sidesFrom n level a end)
+  from-sides zero a end is = tt
+  from-sides (suc n) a end is = at (ltb a end) refl (from-sides n (highSide level a) end (high-low level coarsest finest a is))
+    where
+      at : (t : Bool) → ltb a end ≡ t → Each (Side level (highSide level a) end) (sidesFrom n level (highSide level a) end)
+          → Each (Side level a end) (elim t [ true ↦ a ∷ sidesFrom n level (highSide level a) end | false ↦ [] ])
+      at true e later = (
+        record { is = is; least = omega arith; below = ltb-true a end e },
+        each-so (Side level (highSide level a) end) (Side level a end)
+            (λ x h. record { is = h .is; least = omega (arith, sides-32 level coarsest is finest .room, h .least); below = h .below })
+            (sidesFrom n level (highSide level a) end) later,
+      )
+      at false e later = tt
+
+  -- in increasing order
+  from-rising : (n a end : ℕ) → lowSide level a ≡ a → Rising (sidesFrom n level a end)
+  from-rising zero a end is = tt
+  from-rising (suc n) a end is =
+      let next : lowSide level (highSide level a) ≡ highSide level a = high-low level coarsest finest a is in
+      at (ltb a end) (from-sides n (highSide level a) end next) (from-rising n (highSide level a) end next)
+    where
+      at : (t : Bool) → Each (Side level (highSide level a) end) (sidesFrom n level (highSide level a) end)
+          → Rising (sidesFrom n level (highSide level a) end)
+          → Rising (elim t [ true ↦ a ∷ sidesFrom n level (highSide level a) end | false ↦ [] ])
+      at true later rising = (
+        each-so (Side level (highSide level a) end) (λ (y : ℕ). a < y)
+            (λ x h. omega (arith, sides-32 level coarsest is finest .room, h .least))
+            (sidesFrom n level (highSide level a) end) later,
+        rising,
+      )
+      at false later rising = tt
+
+  -- A low side is the first of them, or one of those from the next on
+  from-next : (n a end b : ℕ) → Side level a end b → (a < b → In b (sidesFrom n level (highSide level a) end))
+      → In b (sidesFrom (suc n) level a end)
+  from-next n a end b h later = at (ltb a end) refl (eq-or-lt-of-le (h .least))
+    where
+      at : (t : Bool) → ltb a end ≡ t → (a ≡ b) ⊎ (a < b)
+          → In b (elim t [ true ↦ a ∷ sidesFrom n level (highSide level a) end | false ↦ [] ])
+      at true e (inl k) = inl (sym k)
+      at true e (inr k) = inr (later k)
+      at false e k = let none : ⊥ = omega (arith, ltb-false a end e, h .least, h .below) in absurd none
+
+  -- so each low side is one of them, where there are steps enough
+  from-all : (n a end b : ℕ) → lowSide level a ≡ a → Side level a end b → (b - a) / 32 < n → In b (sidesFrom n level a end)
+  from-all zero a end b is h few = let none : ⊥ = omega arith in absurd none
+  from-all (suc n) a end b is h few =
+      from-next n a end b h λ k.
+      from-all n (highSide level a) end b (high-low level coarsest finest a is)
+      (record { is = h .is; least = none-between level coarsest finest a b is (h .is) k; below = h .below })
+      (omega (arith, sides-32 level coarsest is finest .room, none-between level coarsest finest a b is (h .is) k))
+
+  -- The sides over an extent are low sides, from that of its first angle on and below its end
+  pub over-sides : (from to : ℕ) → Each (Side level (lowSide level from) to) (sidesOver level from to)
+  over-sides from to = from-sides ((to - from) / 32 + 2) (lowSide level from) to (low-low level coarsest finest from)
+
+  -- in increasing order
+  pub over-rising : (from to : ℕ) → Rising (sidesOver level from to)
+  over-rising from to = from-rising ((to - from) / 32 + 2) (lowSide level from) to (low-low level coarsest finest from)
+
+  -- and all of them
+  pub over-all : (from to a : ℕ) → Side level (lowSide level from) to a → In a (sidesOver level from to)
+  over-all from to a h =
+      let low : lowSide level (lowSide level from) ≡ lowSide level from = low-low level coarsest finest from in
+      let count : suc ((to - from) / 32 + 1) ≡ (to - from) / 32 + 2 = omega arith in
+      subst (λ (n : ℕ). In a (sidesFrom n level (lowSide level from) to)) count
+      (from-next ((to - from) / 32 + 1) (lowSide level from) to a h λ k.
+      let next : highSide level (lowSide level from) ≤ a = none-between level coarsest finest (lowSide level from) a low (h .is) k in
+      from-all ((to - from) / 32 + 1) (highSide level (lowSide level from)) to a
+      (high-low level coarsest finest (lowSide level from) low)
+      (record { is = h .is; least = next; below = h .below })
+      (omega (arith, below-high level coarsest finest from, h .below)))
