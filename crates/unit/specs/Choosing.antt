@@ -162,3 +162,41 @@ module _ (level : ℕ) (coarsest : 9 ≤ level) (finest : level ≤ 27) where
       (high-low level coarsest finest (lowSide level from) low)
       (record { is = h .is; least = next; below = h .below })
       (omega (arith, below-high level coarsest finest from, h .below)))
+
+-- Trying a list of numbers gives a cell: one of them gives it, and every lesser one gives none
+pub record Found (try : ℕ → Choice) (xs : List ℕ) (c : Cell) : Type 0 where
+  pub number : ℕ
+  pub among : In number xs
+  pub gives : try number ≡ At c
+  pub lesser : (y : ℕ) → In y xs → y < number → try y ≡ Nowhere
+
+-- Where trying gives no cell, none of them gives one
+pub first-none : (try : ℕ → Choice) (xs : List ℕ) → firstAmong try xs ≡ Nowhere → Each (λ (x : ℕ). try x ≡ Nowhere) xs
+first-none try [] e = tt
+first-none try (x ∷ xs) e = at (try x) e (first-none try xs)
+  where
+    at : (t : Choice) → orElse t (λ _. firstAmong try xs) ≡ Nowhere
+        → (firstAmong try xs ≡ Nowhere → Each (λ (y : ℕ). try y ≡ Nowhere) xs)
+        → (t ≡ Nowhere) × Each (λ (y : ℕ). try y ≡ Nowhere) xs
+    at (At c) k later = let none : _≡_ {A = ℕ} 0 1 = cc in absurd (omega arith)
+    at Nowhere k later = (refl, later k)
+
+-- Where trying a list in increasing order gives a cell, the least number that gives one gives it
+pub first-found : (try : ℕ → Choice) (xs : List ℕ) {c : Cell} → Rising xs → firstAmong try xs ≡ At c → Found try xs c
+first-found try [] r e = let none : _≡_ {A = ℕ} 0 1 = cc in absurd (omega arith)
+first-found try (x ∷ xs) {c} r e = at (try x) refl e (first-found try xs (r .1))
+  where
+    at : (t : Choice) → try x ≡ t → orElse t (λ _. firstAmong try xs) ≡ At c → (firstAmong try xs ≡ At c → Found try xs c)
+        → Found try (x ∷ xs) c
+    at (At d) here k later = record { number = x; among = inl refl; gives = here ∙ k; lesser = lesser }
+      where
+        lesser : (y : ℕ) → In y (x ∷ xs) → y < x → try y ≡ Nowhere
+        lesser y (inl e) h = let none : ⊥ = omega arith in absurd none
+        lesser y (inr m) h = let none : ⊥ = omega (arith, each-in (λ z. x < z) xs y (r .0) m) in absurd none
+    at Nowhere here k later =
+        let f : Found try xs c = later k in
+        record { number = f .number; among = inr (f .among); gives = f .gives; lesser = lesser f }
+      where
+        lesser : (f : Found try xs c) (y : ℕ) → In y (x ∷ xs) → y < f .number → try y ≡ Nowhere
+        lesser f y (inl e) h = ap try e ∙ here
+        lesser f y (inr m) h = f .lesser y m h
