@@ -200,3 +200,119 @@ first-found try (x ∷ xs) {c} r e = at (try x) refl e (first-found try xs (r .1
         lesser : (f : Found try xs c) (y : ℕ) → In y (x ∷ xs) → y < f .number → try y ≡ Nowhere
         lesser f y (inl e) h = ap try e ∙ here
         lesser f y (inr m) h = f .lesser y m h
+
+-- Counting up lists the numbers from one on, so many
+count-each : (n from : ℕ) → Each (λ (a : ℕ). (from ≤ a) × (a < from + n)) (countUp n from)
+count-each zero from = tt
+count-each (suc n) from = (
+  (omega arith, omega arith),
+  each-so (λ a. (suc from ≤ a) × (a < suc from + n)) (λ a. (from ≤ a) × (a < from + suc n)) (λ a h. (omega arith, omega arith))
+      (countUp n (suc from)) (count-each n (suc from)),
+)
+
+-- in increasing order
+count-rising : (n from : ℕ) → Rising (countUp n from)
+count-rising zero from = tt
+count-rising (suc n) from = (
+  each-so (λ a. (suc from ≤ a) × (a < suc from + n)) (λ a. from < a) (λ a h. h .0) (countUp n (suc from)) (count-each n (suc from)),
+  count-rising n (suc from),
+)
+
+-- and all of them
+count-all : (n from a : ℕ) → from ≤ a → a < from + n → In a (countUp n from)
+count-all zero from a h k = let none : ⊥ = omega arith in absurd none
+count-all (suc n) from a h k = at (eq-or-lt-of-le h) (λ l. count-all n (suc from) a l (omega arith))
+  where
+    at : (from ≡ a) ⊎ (from < a) → (from < a → In a (countUp n (suc from))) → In a (from ∷ countUp n (suc from))
+    at (inl e) later = inl (sym e)
+    at (inr l) later = inr (later l)
+
+-- A test that holds says true
+true-of : (b : Bool) → T b → b ≡ true
+true-of true t = refl
+true-of false t = absurd t
+
+-- A cell that is tried is found where it is inside
+tried-at : (corners : List Point) (c : Cell) {d : Cell} → tried corners c ≡ At d → T (inside corners c) × (c ≡ d)
+tried-at corners c {d} e = at (inside corners c) e
+  where
+    at : (b : Bool) → cond b (At c) Nowhere ≡ At d → T b × (c ≡ d)
+    at true k = (tt, cc)
+    at false k = let none : _≡_ {A = ℕ} 0 1 = cc in absurd (omega arith)
+
+tried-none : (corners : List Point) (c : Cell) → tried corners c ≡ Nowhere → T (inside corners c) → ⊥
+tried-none corners c e t = at (inside corners c) e t
+  where
+    at : (b : Bool) → cond b (At c) Nowhere ≡ Nowhere → T b → ⊥
+    at true k t = let none : _≡_ {A = ℕ} 0 1 = cc in omega arith
+    at false k t = t
+
+-- What trying a south side, a west side and a level gives
+module _ (corners : List Point) where
+  abbrev wests : ℕ → List ℕ
+  wests level = sidesOver level (extremesOf corners .west .0) (extremesOf corners .east .0)
+
+  abbrev souths : ℕ → List ℕ
+  souths level = sidesOver level (extremesOf corners .south .0) (extremesOf corners .north .0)
+
+  abbrev trySouth : ℕ → ℕ → ℕ → Choice
+  trySouth level west south = tried corners (record { level = level; west = lon west; south = lat south })
+
+  abbrev tryWest : ℕ → ℕ → Choice
+  tryWest level west = firstAmong (trySouth level west) (souths level)
+
+  abbrev tryLevel : ℕ → Choice
+  tryLevel level = firstAmong (tryWest level) (wests level)
+
+  choose-is : choose corners ≡ firstAmong tryLevel (countUp 19 9)
+  unfolding choose
+  choose-is = refl
+
+  -- A cell that is inside has its sides among those that are tried, and trying them gives a cell
+  module _ (d : Cell) (is : IsCell d) (t : T (inside corners d)) where
+    west-in : In (d .west .0) (wests (d .level))
+    unfolding sidesOf
+    west-in =
+        let within = in-extents corners d is (true-of (inside corners d) t) in
+        over-all (d .level) (is .coarsest) (is .finest) (extremesOf corners .west .0) (extremesOf corners .east .0) (d .west .0)
+        (record {
+          is = is .west;
+          least = omega (arith, low-most (d .level) (is .coarsest) (is .finest) (extremesOf corners .west .0), within .west);
+          below = omega (arith, sides-32 (d .level) (is .coarsest) (is .west) (is .finest) .room, within .east);
+        })
+
+    south-in : In (d .south .0) (souths (d .level))
+    unfolding sidesOf
+    south-in =
+        let within = in-extents corners d is (true-of (inside corners d) t) in
+        over-all (d .level) (is .coarsest) (is .finest) (extremesOf corners .south .0) (extremesOf corners .north .0) (d .south .0)
+        (record {
+          is = is .south;
+          least = omega (arith, low-most (d .level) (is .coarsest) (is .finest) (extremesOf corners .south .0), within .south);
+          below = omega (arith, sides-32 (d .level) (is .coarsest) (is .south) (is .finest) .room, within .north);
+        })
+
+    level-in : In (d .level) (countUp 19 9)
+    level-in = count-all 19 9 (d .level) (is .coarsest) (omega (arith, is .finest))
+
+    some-south : trySouth (d .level) (d .west .0) (d .south .0) ≡ Nowhere → ⊥
+    some-south e = tried-none corners d e t
+
+    some-west : tryWest (d .level) (d .west .0) ≡ Nowhere → ⊥
+    some-west e =
+        some-south
+        (each-in (λ n. trySouth (d .level) (d .west .0) n ≡ Nowhere) (souths (d .level)) (d .south .0)
+        (first-none (trySouth (d .level) (d .west .0)) (souths (d .level)) e) south-in)
+
+    some-level : tryLevel (d .level) ≡ Nowhere → ⊥
+    some-level e =
+        some-west
+        (each-in (λ n. tryWest (d .level) n ≡ Nowhere) (wests (d .level)) (d .west .0)
+        (first-none (tryWest (d .level)) (wests (d .level)) e) west-in)
+
+  -- Where the computation says none, no cell of levels 9 to 27 is inside
+  pub choose-none : choose corners ≡ Nowhere → (c : Cell) → IsCell c → T (inside corners c) → ⊥
+  choose-none e c is t =
+      some-level c is t
+      (each-in (λ n. tryLevel n ≡ Nowhere) (countUp 19 9) (c .level)
+      (first-none tryLevel (countUp 19 9) (sym choose-is ∙ e)) (level-in c is t))
