@@ -1,17 +1,17 @@
 -- The computation of the chosen cell gives what document 01 says of it ("The cell inside"): there is at most one chosen cell, the sides
 -- that are tried are all low sides over the extent in turn, and what is found first is chosen. Assumes nothing.
-use Prim.Native.Nat.{ℕ, zero, suc, _+_, _-_, _*_, _/_, _≤_, _<_}
+use Prim.Native.Nat.{ℕ, zero, suc, _+_, _-_, _*_, _/_, _≤_, _<_, max}
 use native.Mathlib.Nat.{eq-or-lt-of-le}
 use native.Mathlib.Omega.{arith}
-use mathlib.Core.Path.{_≡_, refl, sym, ap, subst, _∙_}
+use mathlib.Core.Path.{_≡_, refl, sym, ap, subst, subst₂, _∙_}
 use mathlib.Core.Logic.{_⊎_, inl, inr}
 use mathlib.Core.Bool.{Bool, true, false, cond}
-use mathlib.Core.List.{List, [], _∷_}
+use mathlib.Core.List.{List, [], _∷_, map}
 use lib.Dec.{T, ltb}
 use borrow.Author.Tests.{ltb-true, ltb-false}
 use Rattle.ground.specs.declared.Point.{Point}
 use Rattle.ground.specs.declared.Cell.{Cell}
-use Rattle.ground.specs.Levels.{lat, lon, latEnd, lonEnd}
+use Rattle.ground.specs.Levels.{lat, lon, degree, latEnd, lonEnd}
 use Rattle.ground.specs.Cells.{lowSide, highSide, sidesOf, IsCell}
 use Rattle.ground.specs.CellLaws.{Whole, sides-32}
 use Rattle.ground.specs.Sides.{low-most, low-low, below-high, high-low, none-between, degrees-low}
@@ -20,7 +20,7 @@ use Rattle.boundary.specs.Products.{either-way}
 use Rattle.boundary.specs.Odd.{Each}
 use Rattle.unit.specs.declared.Choice.{Choice}
 use Rattle.unit.specs.declared.Choice.the-variants.{At, Nowhere}
-use Rattle.unit.specs.Extents.{extremesOf}
+use Rattle.unit.specs.Extents.{greatestFrom, greatest, extremesOf}
 use Rattle.unit.specs.Chosen.{Before, Chosen, sidesFrom, sidesOver, orElse, firstAmong, countUp, tried, choose}
 use Rattle.unit.specs.InExtents.{in-extents}
 
@@ -163,6 +163,13 @@ module _ (level : ℕ) (coarsest : 9 ≤ level) (finest : level ≤ 27) where
       (record { is = h .is; least = next; below = h .below })
       (omega (arith, below-high level coarsest finest from, h .below)))
 
+  -- A cell from one of them ends at or before a whole number of degrees that the extent ends at or before
+  over-end : (from to n a : ℕ) → to ≤ n * degree → In a (sidesOver level from to) → (lowSide level a ≡ a) × (highSide level a ≤ n * degree)
+  over-end from to n a most m =
+      let h : Side level (lowSide level from) to a =
+      each-in (Side level (lowSide level from) to) (sidesOver level from to) a (over-sides from to) m in
+      (h .is, none-between level coarsest finest a (n * degree) (h .is) (degrees-low level coarsest finest n) (omega (arith, h .below)))
+
 -- Trying a list of numbers gives a cell: one of them gives it, and every lesser one gives none
 pub record Found (try : ℕ → Choice) (xs : List ℕ) (c : Cell) : Type 0 where
   pub number : ℕ
@@ -227,6 +234,12 @@ count-all (suc n) from a h k = at (eq-or-lt-of-le h) (λ l. count-all n (suc fro
     at (inl e) later = inl (sym e)
     at (inr l) later = inr (later l)
 
+-- The levels that are tried are 9 to 27
+levels-are : (level : ℕ) → In level (countUp 19 9) → (9 ≤ level) × (level ≤ 27)
+levels-are level m =
+    let h = each-in (λ a. (9 ≤ a) × (a < 28)) (countUp 19 9) level (count-each 19 9) m in
+    (h .0, omega arith)
+
 -- A test that holds says true
 true-of : (b : Bool) → T b → b ≡ true
 true-of true t = refl
@@ -246,6 +259,20 @@ tried-none corners c e t = at (inside corners c) e t
     at : (b : Bool) → cond b (At c) Nowhere ≡ Nowhere → T b → ⊥
     at true k t = let none : _≡_ {A = ℕ} 0 1 = cc in omega arith
     at false k t = t
+
+-- Every corner is within the range, as check 4 asks
+pub record InRange (corners : List Point) : Type 0 where
+  pub lat : Each (λ (p : Point). p .lat .0 ≤ latEnd) corners
+  pub lon : Each (λ (p : Point). p .lon .0 ≤ lonEnd) corners
+
+-- The greatest of some angles is at most what each is at most
+greatest-from-most : (f : Point → ℕ) (m x : ℕ) (vs : List Point) → x ≤ m → Each (λ (v : Point). f v ≤ m) vs → greatestFrom x (map f vs) ≤ m
+greatest-from-most f m x [] h t = h
+greatest-from-most f m x (v ∷ vs) h t = greatest-from-most f m (max x (f v)) vs (omega (arith, t .0)) (t .1)
+
+greatest-most : (f : Point → ℕ) (m : ℕ) (vs : List Point) → Each (λ (v : Point). f v ≤ m) vs → greatest (map f vs) ≤ m
+greatest-most f m [] t = omega arith
+greatest-most f m (v ∷ vs) t = greatest-from-most f m (f v) vs (t .0) (t .1)
 
 -- What trying a south side, a west side and a level gives
 module _ (corners : List Point) where
@@ -316,3 +343,66 @@ module _ (corners : List Point) where
       some-level c is t
       (each-in (λ n. tryLevel n ≡ Nowhere) (countUp 19 9) (c .level)
       (first-none tryLevel (countUp 19 9) (sym choose-is ∙ e)) (level-in c is t))
+
+  -- A level, a west and a south side that are found first make the chosen cell
+  module _ (range : InRange corners) {c : Cell} (l : Found tryLevel (countUp 19 9) c) (w : Found (tryWest (l .number)) (wests (l .number)) c)
+      (s : Found (trySouth (l .number) (w .number)) (souths (l .number)) c) where
+    abbrev found : Cell
+    found = record { level = l .number; west = lon (w .number); south = lat (s .number) }
+
+    found-cell : IsCell found
+    unfolding sidesOf extremesOf
+    found-cell =
+        let level = levels-are (l .number) (l .among) in
+        let west =
+        over-end (l .number) (level .0) (level .1) (extremesOf corners .west .0) (extremesOf corners .east .0) 180 (w .number)
+        (greatest-most (λ p. p .lon .0) lonEnd corners (range .lon)) (w .among) in
+        let south =
+        over-end (l .number) (level .0) (level .1) (extremesOf corners .south .0) (extremesOf corners .north .0) 90 (s .number)
+        (greatest-most (λ p. p .lat .0) latEnd corners (range .lat)) (s .among) in
+        record {
+          coarsest = level .0;
+          finest = level .1;
+          west = west .0;
+          south = south .0;
+          east-end = west .1;
+          north-end = south .1;
+        }
+
+    none-before : (d : Cell) → IsCell d → T (inside corners d) → Before d found → ⊥
+    none-before d is t (inl h) = some-level d is t (l .lesser (d .level) (level-in d is t) h)
+    none-before d is t (inr (e, inl h)) =
+        some-west d is t
+        (subst (λ (n : ℕ). tryWest n (d .west .0) ≡ Nowhere) (sym e)
+        (w .lesser (d .west .0) (subst (λ (n : ℕ). In (d .west .0) (wests n)) e (west-in d is t)) h))
+    none-before d is t (inr (e, inr (k, h))) =
+        some-south d is t
+        (subst₂ (λ (n m : ℕ). trySouth n m (d .south .0) ≡ Nowhere) (sym e) (sym k)
+        (s .lesser (d .south .0) (subst (λ (n : ℕ). In (d .south .0) (souths n)) e (south-in d is t)) h))
+
+    found-chosen : Chosen corners c
+    found-chosen =
+        let at = tried-at corners found (s .gives) in
+        subst (Chosen corners) (at .1) (record { cell = found-cell; within = at .0; first = none-before })
+
+  module _ (range : InRange corners) where
+    -- What the computation gives is the chosen cell
+    pub choose-chosen : {c : Cell} → choose corners ≡ At c → Chosen corners c
+    choose-chosen {c} e =
+        let l : Found tryLevel (countUp 19 9) c = first-found tryLevel (countUp 19 9) (count-rising 19 9) (sym choose-is ∙ e) in
+        let level = levels-are (l .number) (l .among) in
+        let w : Found (tryWest (l .number)) (wests (l .number)) c =
+        first-found (tryWest (l .number)) (wests (l .number))
+        (over-rising (l .number) (level .0) (level .1) (extremesOf corners .west .0) (extremesOf corners .east .0)) (l .gives) in
+        let s : Found (trySouth (l .number) (w .number)) (souths (l .number)) c =
+        first-found (trySouth (l .number) (w .number)) (souths (l .number))
+        (over-rising (l .number) (level .0) (level .1) (extremesOf corners .south .0) (extremesOf corners .north .0)) (w .gives) in
+        found-chosen range l w s
+
+    -- and it gives the chosen cell where there is one
+    pub chosen-choose : {c : Cell} → Chosen corners c → choose corners ≡ At c
+    chosen-choose {c} h = at (choose corners) refl
+      where
+        at : (t : Choice) → choose corners ≡ t → t ≡ At c
+        at (At d) e = ap At (one-chosen corners (choose-chosen e) h)
+        at Nowhere e = absurd (choose-none e c (h .cell) (h .within))
