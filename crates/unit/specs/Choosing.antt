@@ -8,12 +8,16 @@ use mathlib.Core.Logic.{_⊎_, inl, inr}
 use mathlib.Core.Bool.{Bool, true, false, cond}
 use mathlib.Core.List.{List, [], _∷_, map}
 use lib.Dec.{T, ltb}
-use borrow.Author.Tests.{ltb-true, ltb-false}
+use lib.ListN.{length}
+use borrow.Author.Tests.{ltb-true, ltb-false, le-ltb}
+use Rattle.replies.specs.Places.{firstPlace}
+use Rattle.replies.specs.Tests.{neither}
 use Rattle.ground.specs.declared.Point.{Point}
 use Rattle.ground.specs.declared.Cell.{Cell}
 use Rattle.ground.specs.Levels.{lat, lon, degree, latEnd, lonEnd}
 use Rattle.ground.specs.Cells.{lowSide, highSide, sidesOf, IsCell}
-use Rattle.ground.specs.CellLaws.{Whole, sides-32}
+use Rattle.ground.specs.CellTest.{low-below-high}
+use Rattle.ground.specs.CellLaws.{sides-32}
 use Rattle.ground.specs.Sides.{low-most, low-low, below-high, high-low, none-between, degrees-low}
 use Rattle.boundary.specs.Boundary.{inside}
 use Rattle.boundary.specs.Products.{either-way}
@@ -22,6 +26,7 @@ use Rattle.unit.specs.declared.Choice.{Choice}
 use Rattle.unit.specs.declared.Choice.the-variants.{At, Nowhere}
 use Rattle.unit.specs.Extents.{greatestFrom, greatest, extremesOf}
 use Rattle.unit.specs.Chosen.{Before, Chosen, sidesFrom, sidesOver, orElse, firstAmong, countUp, tried, choose}
+use Rattle.unit.specs.Unit.{aboveRange}
 use Rattle.unit.specs.InExtents.{in-extents}
 
 -- Two numbers compared three ways
@@ -30,6 +35,7 @@ data Compared (a b : ℕ) : Type 0 where
   same : a ≡ b → Compared a b
   more : b < a → Compared a b
 
+-- One of the three always holds
 compared : (a b : ℕ) → Compared a b
 compared a b = at (either-way a b) (either-way b a)
   where
@@ -134,7 +140,7 @@ module _ (level : ℕ) (coarsest : 9 ≤ level) (finest : level ≤ 27) where
       at false e k = let none : ⊥ = omega (arith, ltb-false a end e, h .least, h .below) in absurd none
 
   -- so each low side is one of them, where there are steps enough
-  from-all : (n a end b : ℕ) → lowSide level a ≡ a → Side level a end b → (b - a) / 32 < n → In b (sidesFrom n level a end)
+  pub from-all : (n a end b : ℕ) → lowSide level a ≡ a → Side level a end b → (b - a) / 32 < n → In b (sidesFrom n level a end)
   from-all zero a end b is h few = let none : ⊥ = omega arith in absurd none
   from-all (suc n) a end b is h few =
       from-next n a end b h λ k.
@@ -162,6 +168,16 @@ module _ (level : ℕ) (coarsest : 9 ≤ level) (finest : level ≤ 27) where
       (high-low level coarsest finest (lowSide level from) low)
       (record { is = h .is; least = next; below = h .below })
       (omega (arith, below-high level coarsest finest from, h .below)))
+
+  -- among them each low side from the extent's first angle on whose cell ends at or before the extent's end
+  over-in : (from to a : ℕ) → lowSide level a ≡ a → from ≤ a → highSide level a ≤ to → In a (sidesOver level from to)
+  over-in from to a is least most =
+      over-all from to a
+      (record {
+        is = is;
+        least = omega (arith, low-most level coarsest finest from);
+        below = omega (arith, low-below-high level a coarsest finest);
+      })
 
   -- A cell from one of them ends at or before a whole number of degrees that the extent ends at or before
   over-end : (from to n a : ℕ) → to ≤ n * degree → In a (sidesOver level from to) → (lowSide level a ≡ a) × (highSide level a ≤ n * degree)
@@ -245,7 +261,7 @@ true-of : (b : Bool) → T b → b ≡ true
 true-of true t = refl
 true-of false t = absurd t
 
--- A cell that is tried is found where it is inside
+-- Where trying a cell gives one, it is that cell and it is inside
 tried-at : (corners : List Point) (c : Cell) {d : Cell} → tried corners c ≡ At d → T (inside corners c) × (c ≡ d)
 tried-at corners c {d} e = at (inside corners c) e
   where
@@ -253,6 +269,7 @@ tried-at corners c {d} e = at (inside corners c) e
     at true k = (tt, cc)
     at false k = let none : _≡_ {A = ℕ} 0 1 = cc in absurd (omega arith)
 
+-- and where trying gives none it is not inside
 tried-none : (corners : List Point) (c : Cell) → tried corners c ≡ Nowhere → T (inside corners c) → ⊥
 tried-none corners c e t = at (inside corners c) e t
   where
@@ -265,23 +282,39 @@ pub record InRange (corners : List Point) : Type 0 where
   pub lat : Each (λ (p : Point). p .lat .0 ≤ latEnd) corners
   pub lon : Each (λ (p : Point). p .lon .0 ≤ lonEnd) corners
 
+-- Corners that pass check 4 are within the range
+pub in-range : (corners : List Point) → ltb (firstPlace aboveRange corners) (length corners) ≡ false → InRange corners
+in-range [] e = record { lat = tt; lon = tt }
+in-range (p ∷ ps) e = at (aboveRange p) refl e (in-range ps)
+  where
+    at : (b : Bool) → aboveRange p ≡ b → ltb (cond b 0 (suc (firstPlace aboveRange ps))) (suc (length ps)) ≡ false
+        → (ltb (firstPlace aboveRange ps) (length ps) ≡ false → InRange ps) → InRange (p ∷ ps)
+    at true k e later = let none : ⊥ = omega (arith, ltb-false 0 (suc (length ps)) e) in absurd none
+    at false k e later =
+        let h = neither (ltb latEnd (p .lat .0)) (ltb lonEnd (p .lon .0)) k in
+        let most = ltb-false (suc (firstPlace aboveRange ps)) (suc (length ps)) e in
+        let rest : InRange ps = later (le-ltb (firstPlace aboveRange ps) (length ps) (omega arith)) in
+        record { lat = (ltb-false latEnd (p .lat .0) (h .0), rest .lat); lon = (ltb-false lonEnd (p .lon .0) (h .1), rest .lon) }
+
 -- The greatest of some angles is at most what each is at most
 greatest-from-most : (f : Point → ℕ) (m x : ℕ) (vs : List Point) → x ≤ m → Each (λ (v : Point). f v ≤ m) vs → greatestFrom x (map f vs) ≤ m
 greatest-from-most f m x [] h t = h
 greatest-from-most f m x (v ∷ vs) h t = greatest-from-most f m (max x (f v)) vs (omega (arith, t .0)) (t .1)
 
+-- and so for all of them
 greatest-most : (f : Point → ℕ) (m : ℕ) (vs : List Point) → Each (λ (v : Point). f v ≤ m) vs → greatest (map f vs) ≤ m
 greatest-most f m [] t = omega arith
 greatest-most f m (v ∷ vs) t = greatest-from-most f m (f v) vs (t .0) (t .1)
 
--- What trying a south side, a west side and a level gives
 module _ (corners : List Point) where
+  -- The west and the south sides of a level that are tried
   abbrev wests : ℕ → List ℕ
   wests level = sidesOver level (extremesOf corners .west .0) (extremesOf corners .east .0)
 
   abbrev souths : ℕ → List ℕ
   souths level = sidesOver level (extremesOf corners .south .0) (extremesOf corners .north .0)
 
+  -- What trying a south side, a west side and a level gives
   abbrev trySouth : ℕ → ℕ → ℕ → Choice
   trySouth level west south = tried corners (record { level = level; west = lon west; south = lat south })
 
@@ -291,37 +324,31 @@ module _ (corners : List Point) where
   abbrev tryLevel : ℕ → Choice
   tryLevel level = firstAmong (tryWest level) (wests level)
 
+  -- The computation tries the levels 9 to 27
   choose-is : choose corners ≡ firstAmong tryLevel (countUp 19 9)
   unfolding choose
   choose-is = refl
 
-  -- A cell that is inside has its sides among those that are tried, and trying them gives a cell
   module _ (d : Cell) (is : IsCell d) (t : T (inside corners d)) where
+    -- A cell that is inside has its sides and its level among those that are tried
     west-in : In (d .west .0) (wests (d .level))
     unfolding sidesOf
     west-in =
         let within = in-extents corners d is (true-of (inside corners d) t) in
-        over-all (d .level) (is .coarsest) (is .finest) (extremesOf corners .west .0) (extremesOf corners .east .0) (d .west .0)
-        (record {
-          is = is .west;
-          least = omega (arith, low-most (d .level) (is .coarsest) (is .finest) (extremesOf corners .west .0), within .west);
-          below = omega (arith, sides-32 (d .level) (is .coarsest) (is .west) (is .finest) .room, within .east);
-        })
+        over-in (d .level) (is .coarsest) (is .finest) (extremesOf corners .west .0) (extremesOf corners .east .0) (d .west .0) (is .west)
+        (within .west) (within .east)
 
     south-in : In (d .south .0) (souths (d .level))
     unfolding sidesOf
     south-in =
         let within = in-extents corners d is (true-of (inside corners d) t) in
-        over-all (d .level) (is .coarsest) (is .finest) (extremesOf corners .south .0) (extremesOf corners .north .0) (d .south .0)
-        (record {
-          is = is .south;
-          least = omega (arith, low-most (d .level) (is .coarsest) (is .finest) (extremesOf corners .south .0), within .south);
-          below = omega (arith, sides-32 (d .level) (is .coarsest) (is .south) (is .finest) .room, within .north);
-        })
+        over-in (d .level) (is .coarsest) (is .finest) (extremesOf corners .south .0) (extremesOf corners .north .0) (d .south .0) (is .south)
+        (within .south) (within .north)
 
     level-in : In (d .level) (countUp 19 9)
     level-in = count-all 19 9 (d .level) (is .coarsest) (omega (arith, is .finest))
 
+    -- and trying them gives a cell
     some-south : trySouth (d .level) (d .west .0) (d .south .0) ≡ Nowhere → ⊥
     some-south e = tried-none corners d e t
 
@@ -344,12 +371,13 @@ module _ (corners : List Point) where
       (each-in (λ n. tryLevel n ≡ Nowhere) (countUp 19 9) (c .level)
       (first-none tryLevel (countUp 19 9) (sym choose-is ∙ e)) (level-in c is t))
 
-  -- A level, a west and a south side that are found first make the chosen cell
   module _ (range : InRange corners) {c : Cell} (l : Found tryLevel (countUp 19 9) c) (w : Found (tryWest (l .number)) (wests (l .number)) c)
       (s : Found (trySouth (l .number) (w .number)) (souths (l .number)) c) where
+    -- A level, a west and a south side that are found first make a cell
     abbrev found : Cell
     found = record { level = l .number; west = lon (w .number); south = lat (s .number) }
 
+    -- It is a cell
     found-cell : IsCell found
     unfolding sidesOf extremesOf
     found-cell =
@@ -369,6 +397,7 @@ module _ (corners : List Point) where
           north-end = south .1;
         }
 
+    -- that no cell inside is before
     none-before : (d : Cell) → IsCell d → T (inside corners d) → Before d found → ⊥
     none-before d is t (inl h) = some-level d is t (l .lesser (d .level) (level-in d is t) h)
     none-before d is t (inr (e, inl h)) =
@@ -380,6 +409,7 @@ module _ (corners : List Point) where
         (subst₂ (λ (n m : ℕ). trySouth n m (d .south .0) ≡ Nowhere) (sym e) (sym k)
         (s .lesser (d .south .0) (subst (λ (n : ℕ). In (d .south .0) (souths n)) e (south-in d is t)) h))
 
+    -- so it is chosen
     found-chosen : Chosen corners c
     found-chosen =
         let at = tried-at corners found (s .gives) in
@@ -406,3 +436,11 @@ module _ (corners : List Point) where
         at : (t : Choice) → choose corners ≡ t → t ≡ At c
         at (At d) e = ap At (one-chosen corners (choose-chosen e) h)
         at Nowhere e = absurd (choose-none e c (h .cell) (h .within))
+
+    -- It says none where no cell of levels 9 to 27 is inside
+    pub none-choose : ((c : Cell) → IsCell c → T (inside corners c) → ⊥) → choose corners ≡ Nowhere
+    none-choose none = at (choose corners) refl
+      where
+        at : (t : Choice) → choose corners ≡ t → t ≡ Nowhere
+        at (At c) e = let h : Chosen corners c = choose-chosen e in absurd (none c (h .cell) (h .within))
+        at Nowhere e = refl
