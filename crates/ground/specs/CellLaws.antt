@@ -13,7 +13,7 @@ use Rattle.ground.specs.Sizes.{size-least, size-whole, size-even}
 use Rattle.ground.specs.Cells.{afresh, startOf, lowSide, highSide, sidesOf, IsCell, centreOf, locationCell}
 
 -- Cells start afresh at each degree or at each minute
-afresh-so : (P : ℕ → Type 0) → P degree → P minute → (level : ℕ) → P (afresh level)
+pub afresh-so : (P : ℕ → Type 0) → P degree → P minute → (level : ℕ) → P (afresh level)
 unfolding afresh
 afresh-so P d m level = at (leb level 15)
   where

@@ -3,3 +3,4 @@ pub mod Sizes
 pub mod Cells
 pub mod CellTest
 pub mod CellLaws
+pub mod Sides

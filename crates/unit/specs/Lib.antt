@@ -7,3 +7,4 @@ pub mod SameGround
 pub mod Widening
 pub mod Scaling
 pub mod Cover
+pub mod Choosing

@@ -1,0 +1,446 @@
+-- The computation of the chosen cell gives what document 01 says of it ("The cell inside"): there is at most one chosen cell, the sides
+-- that are tried are all low sides over the extent in turn, and what is found first is chosen. Assumes nothing.
+use Prim.Native.Nat.{ℕ, zero, suc, _+_, _-_, _*_, _/_, _≤_, _<_, max}
+use native.Mathlib.Nat.{eq-or-lt-of-le}
+use native.Mathlib.Omega.{arith}
+use mathlib.Core.Path.{_≡_, refl, sym, ap, subst, subst₂, _∙_}
+use mathlib.Core.Logic.{_⊎_, inl, inr}
+use mathlib.Core.Bool.{Bool, true, false, cond}
+use mathlib.Core.List.{List, [], _∷_, map}
+use lib.Dec.{T, ltb}
+use lib.ListN.{length}
+use borrow.Author.Tests.{ltb-true, ltb-false, le-ltb}
+use Rattle.replies.specs.Places.{firstPlace}
+use Rattle.replies.specs.Tests.{neither}
+use Rattle.ground.specs.declared.Point.{Point}
+use Rattle.ground.specs.declared.Cell.{Cell}
+use Rattle.ground.specs.Levels.{lat, lon, degree, latEnd, lonEnd}
+use Rattle.ground.specs.Cells.{lowSide, highSide, sidesOf, IsCell}
+use Rattle.ground.specs.CellTest.{low-below-high}
+use Rattle.ground.specs.CellLaws.{sides-32}
+use Rattle.ground.specs.Sides.{low-most, low-low, below-high, high-low, none-between, degrees-low}
+use Rattle.boundary.specs.Boundary.{inside}
+use Rattle.boundary.specs.Products.{either-way}
+use Rattle.boundary.specs.Odd.{Each}
+use Rattle.unit.specs.declared.Choice.{Choice}
+use Rattle.unit.specs.declared.Choice.the-variants.{At, Nowhere}
+use Rattle.unit.specs.Extents.{greatestFrom, greatest, extremesOf}
+use Rattle.unit.specs.Chosen.{Before, Chosen, sidesFrom, sidesOver, orElse, firstAmong, countUp, tried, choose}
+use Rattle.unit.specs.Unit.{aboveRange}
+use Rattle.unit.specs.InExtents.{in-extents}
+
+-- Two numbers compared three ways
+data Compared (a b : ℕ) : Type 0 where
+  less : a < b → Compared a b
+  same : a ≡ b → Compared a b
+  more : b < a → Compared a b
+
+-- One of the three always holds
+compared : (a b : ℕ) → Compared a b
+compared a b = at (either-way a b) (either-way b a)
+  where
+    at : (a ≤ b) ⊎ (b < a) → (b ≤ a) ⊎ (a < b) → Compared a b
+    at (inl h) (inl k) = same (omega arith)
+    at (inl h) (inr k) = less k
+    at (inr h) k = more h
+
+-- Of two cells one is before the other, or they are the same
+one-before : (c d : Cell) → (Before c d) ⊎ ((Before d c) ⊎ (c ≡ d))
+one-before c d = level (compared (c .level) (d .level)) (compared (c .west .0) (d .west .0)) (compared (c .south .0) (d .south .0))
+  where
+    level : Compared (c .level) (d .level) → Compared (c .west .0) (d .west .0) → Compared (c .south .0) (d .south .0)
+        → (Before c d) ⊎ ((Before d c) ⊎ (c ≡ d))
+    level (less h) w s = inl (inl h)
+    level (more h) w s = inr (inl (inl h))
+    level (same e) (less h) s = inl (inr (e, inl h))
+    level (same e) (more h) s = inr (inl (inr (sym e, inl h)))
+    level (same e) (same w) (less h) = inl (inr (e, inr (w, h)))
+    level (same e) (same w) (more h) = inr (inl (inr (sym e, inr (sym w, h))))
+    level (same e) (same w) (same s) = inr (inr (λ i. record { level = e i; west = record { 0 = w i }; south = record { 0 = s i } }))
+
+-- There is at most one chosen cell
+pub one-chosen : (corners : List Point) {c d : Cell} → Chosen corners c → Chosen corners d → c ≡ d
+one-chosen corners {c} {d} h k = at (one-before c d)
+  where
+    at : (Before c d) ⊎ ((Before d c) ⊎ (c ≡ d)) → c ≡ d
+    at (inl b) = absurd (k .first c (h .cell) (h .within) b)
+    at (inr (inl b)) = absurd (h .first d (k .cell) (k .within) b)
+    at (inr (inr e)) = e
+
+-- A number of a list
+abbrev pub In : ℕ → List ℕ → Type 0
+In a [] = ⊥
+In a (x ∷ xs) = (a ≡ x) ⊎ In a xs
+
+-- A list in increasing order: each entry is below all later ones
+abbrev pub Rising : List ℕ → Type 0
+Rising [] = Unit {0}
+Rising (x ∷ xs) = Each (λ (y : ℕ). x < y) xs × Rising xs
+
+-- What holds of each entry of a list holds of one
+each-in : (P : ℕ → Type 0) (xs : List ℕ) (a : ℕ) → Each P xs → In a xs → P a
+each-in P [] a t m = absurd m
+each-in P (x ∷ xs) a t (inl e) = subst P (sym e) (t .0)
+each-in P (x ∷ xs) a t (inr m) = each-in P xs a (t .1) m
+
+-- What follows for each number follows for each entry
+each-so : (P Q : ℕ → Type 0) → ((x : ℕ) → P x → Q x) → (xs : List ℕ) → Each P xs → Each Q xs
+each-so P Q so [] t = tt
+each-so P Q so (x ∷ xs) t = (so x (t .0), each-so P Q so xs (t .1))
+
+-- A low side of a level between two ends, the first included
+pub record Side (level from to a : ℕ) : Type 0 where
+  pub is : lowSide level a ≡ a
+  pub least : from ≤ a
+  pub below : a < to
+
+module _ (level : ℕ) (coarsest : 9 ≤ level) (finest : level ≤ 27) where
+  -- The sides from a low side on are low sides from it on and below the end
+  from-sides : (n a end : ℕ) → lowSide level a ≡ a → Each (Side level a end) (sidesFrom n level a end)
+  from-sides zero a end is = tt
+  from-sides (suc n) a end is = at (ltb a end) refl (from-sides n (highSide level a) end (high-low level coarsest finest a is))
+    where
+      at : (t : Bool) → ltb a end ≡ t → Each (Side level (highSide level a) end) (sidesFrom n level (highSide level a) end)
+          → Each (Side level a end) (elim t [ true ↦ a ∷ sidesFrom n level (highSide level a) end | false ↦ [] ])
+      at true e later = (
+        record { is = is; least = omega arith; below = ltb-true a end e },
+        each-so (Side level (highSide level a) end) (Side level a end)
+            (λ x h. record { is = h .is; least = omega (arith, sides-32 level coarsest is finest .room, h .least); below = h .below })
+            (sidesFrom n level (highSide level a) end) later,
+      )
+      at false e later = tt
+
+  -- in increasing order
+  from-rising : (n a end : ℕ) → lowSide level a ≡ a → Rising (sidesFrom n level a end)
+  from-rising zero a end is = tt
+  from-rising (suc n) a end is =
+      let next : lowSide level (highSide level a) ≡ highSide level a = high-low level coarsest finest a is in
+      at (ltb a end) (from-sides n (highSide level a) end next) (from-rising n (highSide level a) end next)
+    where
+      at : (t : Bool) → Each (Side level (highSide level a) end) (sidesFrom n level (highSide level a) end)
+          → Rising (sidesFrom n level (highSide level a) end)
+          → Rising (elim t [ true ↦ a ∷ sidesFrom n level (highSide level a) end | false ↦ [] ])
+      at true later rising = (
+        each-so (Side level (highSide level a) end) (λ (y : ℕ). a < y)
+            (λ x h. omega (arith, sides-32 level coarsest is finest .room, h .least))
+            (sidesFrom n level (highSide level a) end) later,
+        rising,
+      )
+      at false later rising = tt
+
+  -- A low side is the first of them, or one of those from the next on
+  from-next : (n a end b : ℕ) → Side level a end b → (a < b → In b (sidesFrom n level (highSide level a) end))
+      → In b (sidesFrom (suc n) level a end)
+  from-next n a end b h later = at (ltb a end) refl (eq-or-lt-of-le (h .least))
+    where
+      at : (t : Bool) → ltb a end ≡ t → (a ≡ b) ⊎ (a < b)
+          → In b (elim t [ true ↦ a ∷ sidesFrom n level (highSide level a) end | false ↦ [] ])
+      at true e (inl k) = inl (sym k)
+      at true e (inr k) = inr (later k)
+      at false e k = let none : ⊥ = omega (arith, ltb-false a end e, h .least, h .below) in absurd none
+
+  -- so each low side is one of them, where there are steps enough
+  pub from-all : (n a end b : ℕ) → lowSide level a ≡ a → Side level a end b → (b - a) / 32 < n → In b (sidesFrom n level a end)
+  from-all zero a end b is h few = let none : ⊥ = omega arith in absurd none
+  from-all (suc n) a end b is h few =
+      from-next n a end b h λ k.
+      from-all n (highSide level a) end b (high-low level coarsest finest a is)
+      (record { is = h .is; least = none-between level coarsest finest a b is (h .is) k; below = h .below })
+      (omega (arith, sides-32 level coarsest is finest .room, none-between level coarsest finest a b is (h .is) k))
+
+  -- The sides over an extent are low sides, from that of its first angle on and below its end
+  pub over-sides : (from to : ℕ) → Each (Side level (lowSide level from) to) (sidesOver level from to)
+  over-sides from to = from-sides ((to - from) / 32 + 2) (lowSide level from) to (low-low level coarsest finest from)
+
+  -- in increasing order
+  pub over-rising : (from to : ℕ) → Rising (sidesOver level from to)
+  over-rising from to = from-rising ((to - from) / 32 + 2) (lowSide level from) to (low-low level coarsest finest from)
+
+  -- and all of them
+  pub over-all : (from to a : ℕ) → Side level (lowSide level from) to a → In a (sidesOver level from to)
+  over-all from to a h =
+      let low : lowSide level (lowSide level from) ≡ lowSide level from = low-low level coarsest finest from in
+      let count : suc ((to - from) / 32 + 1) ≡ (to - from) / 32 + 2 = omega arith in
+      subst (λ (n : ℕ). In a (sidesFrom n level (lowSide level from) to)) count
+      (from-next ((to - from) / 32 + 1) (lowSide level from) to a h λ k.
+      let next : highSide level (lowSide level from) ≤ a = none-between level coarsest finest (lowSide level from) a low (h .is) k in
+      from-all ((to - from) / 32 + 1) (highSide level (lowSide level from)) to a
+      (high-low level coarsest finest (lowSide level from) low)
+      (record { is = h .is; least = next; below = h .below })
+      (omega (arith, below-high level coarsest finest from, h .below)))
+
+  -- among them each low side from the extent's first angle on whose cell ends at or before the extent's end
+  over-in : (from to a : ℕ) → lowSide level a ≡ a → from ≤ a → highSide level a ≤ to → In a (sidesOver level from to)
+  over-in from to a is least most =
+      over-all from to a
+      (record {
+        is = is;
+        least = omega (arith, low-most level coarsest finest from);
+        below = omega (arith, low-below-high level a coarsest finest);
+      })
+
+  -- A cell from one of them ends at or before a whole number of degrees that the extent ends at or before
+  over-end : (from to n a : ℕ) → to ≤ n * degree → In a (sidesOver level from to) → (lowSide level a ≡ a) × (highSide level a ≤ n * degree)
+  over-end from to n a most m =
+      let h : Side level (lowSide level from) to a =
+      each-in (Side level (lowSide level from) to) (sidesOver level from to) a (over-sides from to) m in
+      (h .is, none-between level coarsest finest a (n * degree) (h .is) (degrees-low level coarsest finest n) (omega (arith, h .below)))
+
+-- Trying a list of numbers gives a cell: one of them gives it, and every lesser one gives none
+pub record Found (try : ℕ → Choice) (xs : List ℕ) (c : Cell) : Type 0 where
+  pub number : ℕ
+  pub among : In number xs
+  pub gives : try number ≡ At c
+  pub lesser : (y : ℕ) → In y xs → y < number → try y ≡ Nowhere
+
+-- Where trying gives no cell, none of them gives one
+pub first-none : (try : ℕ → Choice) (xs : List ℕ) → firstAmong try xs ≡ Nowhere → Each (λ (x : ℕ). try x ≡ Nowhere) xs
+first-none try [] e = tt
+first-none try (x ∷ xs) e = at (try x) e (first-none try xs)
+  where
+    at : (t : Choice) → orElse t (λ _. firstAmong try xs) ≡ Nowhere
+        → (firstAmong try xs ≡ Nowhere → Each (λ (y : ℕ). try y ≡ Nowhere) xs)
+        → (t ≡ Nowhere) × Each (λ (y : ℕ). try y ≡ Nowhere) xs
+    at (At c) k later = let none : _≡_ {A = ℕ} 0 1 = cc in absurd (omega arith)
+    at Nowhere k later = (refl, later k)
+
+-- Where trying a list in increasing order gives a cell, the least number that gives one gives it
+pub first-found : (try : ℕ → Choice) (xs : List ℕ) {c : Cell} → Rising xs → firstAmong try xs ≡ At c → Found try xs c
+first-found try [] r e = let none : _≡_ {A = ℕ} 0 1 = cc in absurd (omega arith)
+first-found try (x ∷ xs) {c} r e = at (try x) refl e (first-found try xs (r .1))
+  where
+    at : (t : Choice) → try x ≡ t → orElse t (λ _. firstAmong try xs) ≡ At c → (firstAmong try xs ≡ At c → Found try xs c)
+        → Found try (x ∷ xs) c
+    at (At d) here k later = record { number = x; among = inl refl; gives = here ∙ k; lesser = lesser }
+      where
+        lesser : (y : ℕ) → In y (x ∷ xs) → y < x → try y ≡ Nowhere
+        lesser y (inl e) h = let none : ⊥ = omega arith in absurd none
+        lesser y (inr m) h = let none : ⊥ = omega (arith, each-in (λ z. x < z) xs y (r .0) m) in absurd none
+    at Nowhere here k later =
+        let f : Found try xs c = later k in
+        record { number = f .number; among = inr (f .among); gives = f .gives; lesser = lesser f }
+      where
+        lesser : (f : Found try xs c) (y : ℕ) → In y (x ∷ xs) → y < f .number → try y ≡ Nowhere
+        lesser f y (inl e) h = ap try e ∙ here
+        lesser f y (inr m) h = f .lesser y m h
+
+-- Counting up lists the numbers from one on, so many
+count-each : (n from : ℕ) → Each (λ (a : ℕ). (from ≤ a) × (a < from + n)) (countUp n from)
+count-each zero from = tt
+count-each (suc n) from = (
+  (omega arith, omega arith),
+  each-so (λ a. (suc from ≤ a) × (a < suc from + n)) (λ a. (from ≤ a) × (a < from + suc n)) (λ a h. (omega arith, omega arith))
+      (countUp n (suc from)) (count-each n (suc from)),
+)
+
+-- in increasing order
+count-rising : (n from : ℕ) → Rising (countUp n from)
+count-rising zero from = tt
+count-rising (suc n) from = (
+  each-so (λ a. (suc from ≤ a) × (a < suc from + n)) (λ a. from < a) (λ a h. h .0) (countUp n (suc from)) (count-each n (suc from)),
+  count-rising n (suc from),
+)
+
+-- and all of them
+count-all : (n from a : ℕ) → from ≤ a → a < from + n → In a (countUp n from)
+count-all zero from a h k = let none : ⊥ = omega arith in absurd none
+count-all (suc n) from a h k = at (eq-or-lt-of-le h) (λ l. count-all n (suc from) a l (omega arith))
+  where
+    at : (from ≡ a) ⊎ (from < a) → (from < a → In a (countUp n (suc from))) → In a (from ∷ countUp n (suc from))
+    at (inl e) later = inl (sym e)
+    at (inr l) later = inr (later l)
+
+-- The levels that are tried are 9 to 27
+levels-are : (level : ℕ) → In level (countUp 19 9) → (9 ≤ level) × (level ≤ 27)
+levels-are level m =
+    let h = each-in (λ a. (9 ≤ a) × (a < 28)) (countUp 19 9) level (count-each 19 9) m in
+    (h .0, omega arith)
+
+-- A test that holds says true
+true-of : (b : Bool) → T b → b ≡ true
+true-of true t = refl
+true-of false t = absurd t
+
+-- Where trying a cell gives one, it is that cell and it is inside
+tried-at : (corners : List Point) (c : Cell) {d : Cell} → tried corners c ≡ At d → T (inside corners c) × (c ≡ d)
+tried-at corners c {d} e = at (inside corners c) e
+  where
+    at : (b : Bool) → cond b (At c) Nowhere ≡ At d → T b × (c ≡ d)
+    at true k = (tt, cc)
+    at false k = let none : _≡_ {A = ℕ} 0 1 = cc in absurd (omega arith)
+
+-- and where trying gives none it is not inside
+tried-none : (corners : List Point) (c : Cell) → tried corners c ≡ Nowhere → T (inside corners c) → ⊥
+tried-none corners c e t = at (inside corners c) e t
+  where
+    at : (b : Bool) → cond b (At c) Nowhere ≡ Nowhere → T b → ⊥
+    at true k t = let none : _≡_ {A = ℕ} 0 1 = cc in omega arith
+    at false k t = t
+
+-- Every corner is within the range, as check 4 asks
+pub record InRange (corners : List Point) : Type 0 where
+  pub lat : Each (λ (p : Point). p .lat .0 ≤ latEnd) corners
+  pub lon : Each (λ (p : Point). p .lon .0 ≤ lonEnd) corners
+
+-- Corners that pass check 4 are within the range
+pub in-range : (corners : List Point) → ltb (firstPlace aboveRange corners) (length corners) ≡ false → InRange corners
+in-range [] e = record { lat = tt; lon = tt }
+in-range (p ∷ ps) e = at (aboveRange p) refl e (in-range ps)
+  where
+    at : (b : Bool) → aboveRange p ≡ b → ltb (cond b 0 (suc (firstPlace aboveRange ps))) (suc (length ps)) ≡ false
+        → (ltb (firstPlace aboveRange ps) (length ps) ≡ false → InRange ps) → InRange (p ∷ ps)
+    at true k e later = let none : ⊥ = omega (arith, ltb-false 0 (suc (length ps)) e) in absurd none
+    at false k e later =
+        let h = neither (ltb latEnd (p .lat .0)) (ltb lonEnd (p .lon .0)) k in
+        let most = ltb-false (suc (firstPlace aboveRange ps)) (suc (length ps)) e in
+        let rest : InRange ps = later (le-ltb (firstPlace aboveRange ps) (length ps) (omega arith)) in
+        record { lat = (ltb-false latEnd (p .lat .0) (h .0), rest .lat); lon = (ltb-false lonEnd (p .lon .0) (h .1), rest .lon) }
+
+-- The greatest of some angles is at most what each is at most
+greatest-from-most : (f : Point → ℕ) (m x : ℕ) (vs : List Point) → x ≤ m → Each (λ (v : Point). f v ≤ m) vs → greatestFrom x (map f vs) ≤ m
+greatest-from-most f m x [] h t = h
+greatest-from-most f m x (v ∷ vs) h t = greatest-from-most f m (max x (f v)) vs (omega (arith, t .0)) (t .1)
+
+-- and so for all of them
+greatest-most : (f : Point → ℕ) (m : ℕ) (vs : List Point) → Each (λ (v : Point). f v ≤ m) vs → greatest (map f vs) ≤ m
+greatest-most f m [] t = omega arith
+greatest-most f m (v ∷ vs) t = greatest-from-most f m (f v) vs (t .0) (t .1)
+
+module _ (corners : List Point) where
+  -- The west and the south sides of a level that are tried
+  abbrev wests : ℕ → List ℕ
+  wests level = sidesOver level (extremesOf corners .west .0) (extremesOf corners .east .0)
+
+  abbrev souths : ℕ → List ℕ
+  souths level = sidesOver level (extremesOf corners .south .0) (extremesOf corners .north .0)
+
+  -- What trying a south side, a west side and a level gives
+  abbrev trySouth : ℕ → ℕ → ℕ → Choice
+  trySouth level west south = tried corners (record { level = level; west = lon west; south = lat south })
+
+  abbrev tryWest : ℕ → ℕ → Choice
+  tryWest level west = firstAmong (trySouth level west) (souths level)
+
+  abbrev tryLevel : ℕ → Choice
+  tryLevel level = firstAmong (tryWest level) (wests level)
+
+  -- The computation tries the levels 9 to 27
+  choose-is : choose corners ≡ firstAmong tryLevel (countUp 19 9)
+  unfolding choose
+  choose-is = refl
+
+  module _ (d : Cell) (is : IsCell d) (t : T (inside corners d)) where
+    -- A cell that is inside has its sides and its level among those that are tried
+    west-in : In (d .west .0) (wests (d .level))
+    unfolding sidesOf
+    west-in =
+        let within = in-extents corners d is (true-of (inside corners d) t) in
+        over-in (d .level) (is .coarsest) (is .finest) (extremesOf corners .west .0) (extremesOf corners .east .0) (d .west .0) (is .west)
+        (within .west) (within .east)
+
+    south-in : In (d .south .0) (souths (d .level))
+    unfolding sidesOf
+    south-in =
+        let within = in-extents corners d is (true-of (inside corners d) t) in
+        over-in (d .level) (is .coarsest) (is .finest) (extremesOf corners .south .0) (extremesOf corners .north .0) (d .south .0) (is .south)
+        (within .south) (within .north)
+
+    level-in : In (d .level) (countUp 19 9)
+    level-in = count-all 19 9 (d .level) (is .coarsest) (omega (arith, is .finest))
+
+    -- and trying them gives a cell
+    some-south : trySouth (d .level) (d .west .0) (d .south .0) ≡ Nowhere → ⊥
+    some-south e = tried-none corners d e t
+
+    some-west : tryWest (d .level) (d .west .0) ≡ Nowhere → ⊥
+    some-west e =
+        some-south
+        (each-in (λ n. trySouth (d .level) (d .west .0) n ≡ Nowhere) (souths (d .level)) (d .south .0)
+        (first-none (trySouth (d .level) (d .west .0)) (souths (d .level)) e) south-in)
+
+    some-level : tryLevel (d .level) ≡ Nowhere → ⊥
+    some-level e =
+        some-west
+        (each-in (λ n. tryWest (d .level) n ≡ Nowhere) (wests (d .level)) (d .west .0)
+        (first-none (tryWest (d .level)) (wests (d .level)) e) west-in)
+
+  -- Where the computation says none, no cell of levels 9 to 27 is inside
+  pub choose-none : choose corners ≡ Nowhere → (c : Cell) → IsCell c → T (inside corners c) → ⊥
+  choose-none e c is t =
+      some-level c is t
+      (each-in (λ n. tryLevel n ≡ Nowhere) (countUp 19 9) (c .level)
+      (first-none tryLevel (countUp 19 9) (sym choose-is ∙ e)) (level-in c is t))
+
+  module _ (range : InRange corners) {c : Cell} (l : Found tryLevel (countUp 19 9) c) (w : Found (tryWest (l .number)) (wests (l .number)) c)
+      (s : Found (trySouth (l .number) (w .number)) (souths (l .number)) c) where
+    -- A level, a west and a south side that are found first make a cell
+    abbrev found : Cell
+    found = record { level = l .number; west = lon (w .number); south = lat (s .number) }
+
+    -- It is a cell
+    found-cell : IsCell found
+    unfolding sidesOf extremesOf
+    found-cell =
+        let level = levels-are (l .number) (l .among) in
+        let west =
+        over-end (l .number) (level .0) (level .1) (extremesOf corners .west .0) (extremesOf corners .east .0) 180 (w .number)
+        (greatest-most (λ p. p .lon .0) lonEnd corners (range .lon)) (w .among) in
+        let south =
+        over-end (l .number) (level .0) (level .1) (extremesOf corners .south .0) (extremesOf corners .north .0) 90 (s .number)
+        (greatest-most (λ p. p .lat .0) latEnd corners (range .lat)) (s .among) in
+        record {
+          coarsest = level .0;
+          finest = level .1;
+          west = west .0;
+          south = south .0;
+          east-end = west .1;
+          north-end = south .1;
+        }
+
+    -- that no cell inside is before
+    none-before : (d : Cell) → IsCell d → T (inside corners d) → Before d found → ⊥
+    none-before d is t (inl h) = some-level d is t (l .lesser (d .level) (level-in d is t) h)
+    none-before d is t (inr (e, inl h)) =
+        some-west d is t
+        (subst (λ (n : ℕ). tryWest n (d .west .0) ≡ Nowhere) (sym e)
+        (w .lesser (d .west .0) (subst (λ (n : ℕ). In (d .west .0) (wests n)) e (west-in d is t)) h))
+    none-before d is t (inr (e, inr (k, h))) =
+        some-south d is t
+        (subst₂ (λ (n m : ℕ). trySouth n m (d .south .0) ≡ Nowhere) (sym e) (sym k)
+        (s .lesser (d .south .0) (subst (λ (n : ℕ). In (d .south .0) (souths n)) e (south-in d is t)) h))
+
+    -- so it is chosen
+    found-chosen : Chosen corners c
+    found-chosen =
+        let at = tried-at corners found (s .gives) in
+        subst (Chosen corners) (at .1) (record { cell = found-cell; within = at .0; first = none-before })
+
+  module _ (range : InRange corners) where
+    -- What the computation gives is the chosen cell
+    pub choose-chosen : {c : Cell} → choose corners ≡ At c → Chosen corners c
+    choose-chosen {c} e =
+        let l : Found tryLevel (countUp 19 9) c = first-found tryLevel (countUp 19 9) (count-rising 19 9) (sym choose-is ∙ e) in
+        let level = levels-are (l .number) (l .among) in
+        let w : Found (tryWest (l .number)) (wests (l .number)) c =
+        first-found (tryWest (l .number)) (wests (l .number))
+        (over-rising (l .number) (level .0) (level .1) (extremesOf corners .west .0) (extremesOf corners .east .0)) (l .gives) in
+        let s : Found (trySouth (l .number) (w .number)) (souths (l .number)) c =
+        first-found (trySouth (l .number) (w .number)) (souths (l .number))
+        (over-rising (l .number) (level .0) (level .1) (extremesOf corners .south .0) (extremesOf corners .north .0)) (w .gives) in
+        found-chosen range l w s
+
+    -- and it gives the chosen cell where there is one
+    pub chosen-choose : {c : Cell} → Chosen corners c → choose corners ≡ At c
+    chosen-choose {c} h = at (choose corners) refl
+      where
+        at : (t : Choice) → choose corners ≡ t → t ≡ At c
+        at (At d) e = ap At (one-chosen corners (choose-chosen e) h)
+        at Nowhere e = absurd (choose-none e c (h .cell) (h .within))
+
+    -- It says none where no cell of levels 9 to 27 is inside
+    pub none-choose : ((c : Cell) → IsCell c → T (inside corners c) → ⊥) → choose corners ≡ Nowhere
+    none-choose none = at (choose corners) refl
+      where
+        at : (t : Choice) → choose corners ≡ t → t ≡ Nowhere
+        at (At c) e = let h : Chosen corners c = choose-chosen e in absurd (none c (h .cell) (h .within))
+        at Nowhere e = refl
