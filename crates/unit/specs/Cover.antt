@@ -211,7 +211,7 @@ number-most Building number e = within 1 1048575 number e .1
 number-most Other number e = let none : number ≡ 0 = eqb-true number 0 (not-false (eqb number 0) e) in omega arith
 
 -- A unit coded: its cell, with which no check refuses, and coding is writing from its fields
-pub record Coded (room numbers : List ℕ) (kind : Kind) (number : ℕ) : Type 0 where
+pub record UnitCoded (room numbers : List ℕ) (kind : Kind) (number : ℕ) : Type 0 where
   pub cell : Cell
   pub chosen : choose (cornersOf numbers) ≡ At cell
   pub passing : Passing (cornersOf numbers) number cell
@@ -226,7 +226,7 @@ pub record ReadBack (corners : List Point) (told : Told) : Type 0 where
 module _ (room numbers : List ℕ) (kind : Kind) (number : ℕ)
     (found : (c : Cell) → choose (cornersOf numbers) ≡ At c → IsCell c × (inside (cornersOf numbers) c ≡ true)) where
   -- Where the cell found is a cell that is inside, coding that accepts codes its unit
-  pub coded : coding room numbers kind number .said ≡ accepted → Coded room numbers kind number
+  pub coded : coding room numbers kind number .said ≡ accepted → UnitCoded room numbers kind number
   unfolding coding cornerChecks
   coded e =
       let corners : List Point = cornersOf numbers in
@@ -247,7 +247,7 @@ module _ (room numbers : List ℕ) (kind : Kind) (number : ℕ)
           → Each (λ (v : Point). aboveRange v ≡ false) (cornersOf numbers)
           → latExtent (extremesOf (cornersOf numbers)) ≤ degree → lonExtent (extremesOf (cornersOf numbers)) ≤ degree
           → number ≤ 1048575 → noCell choice ≡ false → spanAbove (extremesOf (cornersOf numbers)) number choice ≡ false
-          → Coded room numbers kind number
+          → UnitCoded room numbers kind number
       at (At c) chosen long range lat lon unit some spans =
           let is = found c chosen in
           let passing : Passing (cornersOf numbers) number c = record {

@@ -8,3 +8,4 @@ pub mod Widening
 pub mod Scaling
 pub mod Cover
 pub mod Choosing
+pub mod Frame

@@ -1,6 +1,6 @@
-// A unit: what coding is. The definitions are in specs/: the chosen cell in Chosen.antt, scale,
-// spans, checks and coding in Unit.antt. Proved so far: the extents, the first corner above its range
-// and the scale; the rest of the frame that both roads share is not built.
+// A unit: what coding is, and the frame that both roads share around their search. The definitions
+// are in specs/: the chosen cell in Chosen.antt, scale, spans, checks and coding in Unit.antt, the
+// frame in Frame.antt.
 mod extents;
 mod scale;
 
@@ -19,4 +19,17 @@ pub enum Kind {
 pub enum Choice {
     At(Cell),
     Nowhere,
+}
+
+// What coding answers: acceptance, or what is refused (1 to 8).
+pub enum Coded {
+    Accepted,
+    Output,
+    Pairs,
+    Corners,
+    Range(u32),
+    Extent,
+    Number,
+    NoCell,
+    Span,
 }

@@ -1,0 +1,46 @@
+-- Coding's frame (document 01, "Replies"): what both roads share around their search. The answers of coding, the checks before a cell is
+-- looked for, and the end of coding around a cell that is handed in. Assumes nothing.
+use Prim.Native.Nat.{ℕ}
+use mathlib.Core.Bool.{cond}
+use mathlib.Core.List.{List}
+use lib.Dec.{eqb}
+use lib.ListN.{take}
+use Rattle.replies.specs.Replies.{Said, refused, accepted, Check, Outcome}
+use Rattle.ground.specs.declared.Rectangle.{Rectangle}
+use Rattle.ground.specs.CellTest.{isCell}
+use Rattle.code.specs.Code.{writing}
+use Rattle.unit.specs.declared.Kind.{Kind}
+use Rattle.unit.specs.declared.Choice.{Choice}
+use Rattle.unit.specs.declared.Choice.the-variants.{At, Nowhere}
+use Rattle.unit.specs.declared.Coded.{Coded}
+use Rattle.unit.specs.declared.Coded.the-variants as coded
+use Rattle.unit.specs.Unit.{fieldsOf, codeChecks}
+
+-- The number and the place of each answer of coding
+abbrev pub says : Coded → Said
+says coded.Accepted = accepted
+says coded.Output = refused 1 0
+says coded.Pairs = refused 2 0
+says coded.Corners = refused 3 0
+says (coded.Range corner) = refused 4 corner
+says coded.Extent = refused 5 0
+says coded.Number = refused 6 0
+says coded.NoCell = refused 7 0
+says coded.Span = refused 8 0
+
+-- What coding leaves, from its answer and the room
+abbrev pub leaves : Coded → List ℕ → Outcome
+leaves answer room = record { said = says answer; room = room }
+
+-- Checks 1 to 6, before a cell is looked for
+unfoldable pub firstChecks : List ℕ → List ℕ → Kind → ℕ → List Check
+firstChecks room numbers kind number = take 6 (codeChecks room numbers kind number)
+
+-- What writing from a cell's fields comes to: acceptance, or 8, since a chosen cell's fields can fail by a span alone
+abbrev pub ending : Outcome → Outcome
+ending o = record { said = cond (eqb (o .said .number) 0) accepted (refused 8 0); room = o .room }
+
+-- The end of coding around what a search hands in: 7 where it is no cell, else writing from its fields
+unfoldable pub finishing : List ℕ → Rectangle → ℕ → Choice → Outcome
+finishing room r number Nowhere = leaves coded.NoCell room
+finishing room r number (At c) = cond (isCell c) (ending (writing room (fieldsOf r number c))) (leaves coded.NoCell room)
