@@ -11,6 +11,7 @@ mod code;
 mod grid;
 mod lines;
 mod plain;
+mod questions;
 mod quick;
 mod random;
 mod requests;
