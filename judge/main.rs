@@ -1,6 +1,7 @@
 //! The judge: a second program written from document 01 alone, against which
 //! the verified program is compared. This file reads the command line.
 
+mod asked;
 mod borders;
 mod borderunits;
 mod boundary;

@@ -35,6 +35,28 @@ impl Question {
         }
     }
 
+    /// The request that asks it.
+    pub fn line(&self) -> Vec<u8> {
+        let (word, numbers, coordinates): (&str, Vec<i64>, &[i64]) = match self {
+            Question::Meets { a, b, lat, lon } => {
+                let ends = [a.lat, a.lon, b.lat, b.lon];
+                let sides = [lon.from, lon.to, lat.from, lat.to];
+                ("meets", [ends, sides].concat(), &[])
+            }
+            Question::Odd { point, coordinates } => {
+                ("odd", vec![point.lat, point.lon], coordinates)
+            }
+            Question::Inside { level, west, south, coordinates } => {
+                ("inside", vec![*level, *west, *south], coordinates)
+            }
+        };
+        let mut line = word.to_string();
+        for number in numbers.iter().chain(coordinates) {
+            line.push_str(&format!(" {number}"));
+        }
+        line.into_bytes()
+    }
+
     /// The answer.
     pub fn yes(&self) -> bool {
         match self {
