@@ -80,6 +80,7 @@ fn edge_question(random: &mut Random) -> Question {
     let (a, b) = match random.below(8) {
         0..=2 => through_corner(random, lat, lon),
         3 => along_side(random, lat, lon),
+        4 => (far(random), far(random)),
         _ => (spot(random, lat, lon), spot(random, lat, lon)),
     };
     let (mut a, mut b) = (numbered(nudged(random, a)), numbered(nudged(random, b)));
@@ -137,6 +138,13 @@ fn near(random: &mut Random, s: Stretch) -> i64 {
 
 fn spot(random: &mut Random, lat: Stretch, lon: Stretch) -> Point {
     at(near(random, lat), near(random, lon))
+}
+
+/// A point of any numbers, mostly at an end, so that products are large.
+fn far(random: &mut Random) -> Point {
+    let any = random.between(0, MOST);
+    let mut number = || random.pick(&[0, 0, 1, MOST - 1, MOST, MOST, any]);
+    at(number(), number())
 }
 
 /// Two ends on a line through a corner of the rectangle, mostly with the
