@@ -1,7 +1,8 @@
 //! A unit's boundary: its edges and extents, and the rules Meeting, Odd count
-//! and Inside, word for word as the document has them.
+//! and Inside, word for word as the document has them. They hold for all
+//! numbers up to 4,294,967,295, also past the ranges: products are of 128 bits.
 
-use crate::grid::{Cell, Point};
+use crate::grid::{corners, Cell, Point, Stretch};
 
 #[derive(Clone, Copy, Debug)]
 pub struct Edge {
@@ -43,23 +44,33 @@ pub fn edges(corners: &[Point]) -> Vec<Edge> {
     pairs.filter(|(a, b)| a != b).map(|(&a, &b)| Edge { a, b }).collect()
 }
 
+fn product(a: i64, b: i64) -> i128 {
+    i128::from(a) * i128::from(b)
+}
+
 /// Above 0 on one side of the edge's line, below 0 on the other, 0 on it.
-fn side(edge: &Edge, p: Point) -> i64 {
-    (edge.b.lon - edge.a.lon) * (p.lat - edge.a.lat)
-        - (edge.b.lat - edge.a.lat) * (p.lon - edge.a.lon)
+fn side(edge: &Edge, p: Point) -> i128 {
+    product(edge.b.lon - edge.a.lon, p.lat - edge.a.lat)
+        - product(edge.b.lat - edge.a.lat, p.lon - edge.a.lon)
 }
 
 /// Meeting: the edge does not miss the cell's open inside.
 pub fn meets(edge: &Edge, cell: &Cell) -> bool {
+    meets_rectangle(edge, cell.lat, cell.lon)
+}
+
+/// Meeting with the sides of any rectangle in place of a cell's, also sides in
+/// the wrong order.
+pub fn meets_rectangle(edge: &Edge, lat: Stretch, lon: Stretch) -> bool {
     let (a, b) = (edge.a, edge.b);
-    let misses_beside = (a.lon <= cell.lon.from && b.lon <= cell.lon.from)
-        || (a.lon >= cell.lon.to && b.lon >= cell.lon.to)
-        || (a.lat <= cell.lat.from && b.lat <= cell.lat.from)
-        || (a.lat >= cell.lat.to && b.lat >= cell.lat.to);
+    let misses_beside = (a.lon <= lon.from && b.lon <= lon.from)
+        || (a.lon >= lon.to && b.lon >= lon.to)
+        || (a.lat <= lat.from && b.lat <= lat.from)
+        || (a.lat >= lat.to && b.lat >= lat.to);
     if misses_beside {
         return false;
     }
-    let sides = cell.corners().map(|corner| side(edge, corner));
+    let sides = corners(lat, lon).map(|corner| side(edge, corner));
     // The line itself counts for either side.
     !(sides.iter().all(|&s| s >= 0) || sides.iter().all(|&s| s <= 0))
 }
@@ -73,7 +84,7 @@ pub fn counts(edge: &Edge, p: Point) -> bool {
         _ => return false,
     };
     // Both sides of "crossing east of p" times high.lat - low.lat, above 0.
-    (high.lon - low.lon) * (p.lat - low.lat) > (p.lon - low.lon) * (high.lat - low.lat)
+    product(high.lon - low.lon, p.lat - low.lat) > product(p.lon - low.lon, high.lat - low.lat)
 }
 
 /// Odd count.

@@ -80,6 +80,19 @@ impl Cell {
         Cell { level, lat: stretch_at(level, point.lat), lon: stretch_at(level, point.lon) }
     }
 
+    /// The cell that has this west and this south side, if there is one: the
+    /// level is 9 to 27, cells of it start there, and it ends in the ranges.
+    pub fn with_sides(level: i64, west: i64, south: i64) -> Option<Cell> {
+        let level = u8::try_from(level).ok()?;
+        if !(COARSEST..=FINEST).contains(&level) {
+            return None;
+        }
+        let cell = Cell::at(level, Point { lat: south, lon: west });
+        let starts = cell.lat.from == south && cell.lon.from == west;
+        let ends = cell.lat.to <= LAT_END && cell.lon.to <= LON_END;
+        Some(cell).filter(|_| starts && ends)
+    }
+
     pub fn centre(&self) -> Point {
         Point { lat: self.lat.halfway(), lon: self.lon.halfway() }
     }
@@ -93,15 +106,20 @@ impl Cell {
         Point { lat: centre.lat - STEP, lon: centre.lon - STEP }
     }
 
-    /// South-west, south-east, north-east, north-west.
+    /// As of any rectangle.
     pub fn corners(&self) -> [Point; 4] {
-        let (south, north) = (self.lat.from, self.lat.to);
-        let (west, east) = (self.lon.from, self.lon.to);
-        [
-            Point { lat: south, lon: west },
-            Point { lat: south, lon: east },
-            Point { lat: north, lon: east },
-            Point { lat: north, lon: west },
-        ]
+        corners(self.lat, self.lon)
     }
+}
+
+/// South-west, south-east, north-east, north-west.
+pub fn corners(lat: Stretch, lon: Stretch) -> [Point; 4] {
+    let (south, north) = (lat.from, lat.to);
+    let (west, east) = (lon.from, lon.to);
+    [
+        Point { lat: south, lon: west },
+        Point { lat: south, lon: east },
+        Point { lat: north, lon: east },
+        Point { lat: north, lon: west },
+    ]
 }

@@ -1,6 +1,8 @@
 //! The judge: a second program written from document 01 alone, against which
 //! the verified program is compared. This file reads the command line.
 
+mod asked;
+mod borderedges;
 mod borders;
 mod borderunits;
 mod boundary;
@@ -11,6 +13,7 @@ mod code;
 mod grid;
 mod lines;
 mod plain;
+mod questions;
 mod quick;
 mod random;
 mod requests;
@@ -24,7 +27,7 @@ use std::io::{self, BufWriter, ErrorKind, Write};
 use std::process::ExitCode;
 
 const USAGE: &str = "usage: judge listing | trials | requests SEED COUNT [KINDS] | \
-borders [units | roads] | agree SEED COUNT | units SEED COUNT | changes SEED COUNT | \
+borders [units | roads | edges] | agree SEED COUNT | units SEED COUNT | changes SEED COUNT | \
 cases | selftest";
 
 fn main() -> ExitCode {
@@ -59,6 +62,7 @@ fn run(words: &[&str]) -> io::Result<Option<bool>> {
         ["borders"] => borders::borders(output).map(|()| true),
         ["borders", "units"] => borderunits::border_units(output).map(|()| true),
         ["borders", "roads"] => borderunits::border_roads(output).map(|()| true),
+        ["borders", "edges"] => borderedges::border_edges(output).map(|()| true),
         ["cases"] => cases::cases(output),
         ["selftest"] => selftest::selftest(output),
         [command, seed, count, kinds @ ..] => match (seed.parse(), count.parse()) {

@@ -2,6 +2,7 @@
 
 use std::io::{self, Write};
 
+use crate::asked::{inside_request, meets_request, odd_request};
 use crate::broken::{broken, noise, BAD_NUMBERS};
 use crate::code::{bits_of, parts_of, spell, Fields, Parts, LENGTH, LETTERS, NUMBER_MAX};
 use crate::grid::{DEGREE, LAT_END, LON_END, MINUTE, STEP};
@@ -16,16 +17,19 @@ type Maker = fn(&mut Random) -> Vec<u8>;
 type Share = (u64, Maker);
 
 /// The kinds of requests with their shares.
-const KINDS: [(&str, u64, Maker); 5] = [
+const KINDS: [(&str, u64, Maker); 8] = [
     ("write", 25, write_request),
     ("read", 30, read_request),
     ("plain", 15, plain_request),
     ("quick", 15, quick_request),
+    ("meets", 10, meets_request),
+    ("odd", 10, odd_request),
+    ("inside", 15, inside_request),
     ("bad", 15, bad_request),
 ];
 
 /// Small bad requests, each wrong in its own way.
-const MALFORMED: [&[u8]; 37] = [
+const MALFORMED: [&[u8]; 49] = [
     b"read",
     b"READ 00000000001UY1120000",
     b"Read 00000000001UY1120000",
@@ -56,6 +60,18 @@ const MALFORMED: [&[u8]; 37] = [
     b"plain 20 X 0 0 0 0 960 32 960 32 0",
     b"quick 20 20 F 0",
     b"plain F 0 0 0 0 960 32 960 32 0",
+    b"meets",
+    b"meets 0 0 10 10 2 4 2",
+    b"meets 0 0 10 10 2 4 2 4 ",
+    b"meets 0 0 10 10 2 4 2 4 0",
+    b"Meets 0 0 10 10 2 4 2 4",
+    b"odd",
+    b"odd 5",
+    b"odd 5 5 ",
+    b"ODD 5 5 0 0 0 10 10 10 10 0",
+    b"inside",
+    b"inside 27 0",
+    b"inside 27 0 0  0 0 0 32 32 32 32 0",
     b"listing",
     b"?",
     b"\0",
@@ -311,17 +327,20 @@ fn bad_request(random: &mut Random) -> Vec<u8> {
         }
         61..=70 => other_count(random),
         _ => {
-            let maker: Maker = random.pick(&[plain_request as Maker, quick_request]);
+            let maker: Maker = random.pick(&[
+                plain_request as Maker, quick_request, meets_request, odd_request, inside_request,
+            ]);
             let line = maker(random);
             surely_bad(broken(random, &line))
         }
     }
 }
 
-/// Makes sure that a broken request to code is no request: changed by chance,
-/// its unit could be one that takes the plain road very long.
+/// Makes sure that a broken request to code or to answer a question is no
+/// request: changed by chance, a unit could be one that takes the plain road
+/// very long, and a question with fewer coordinates is a good one.
 fn surely_bad(mut line: Vec<u8>) -> Vec<u8> {
-    if let Some(Request::Code { .. }) = request_of(&line) {
+    if let Some(Request::Code { .. } | Request::Ask(_)) = request_of(&line) {
         line.push(b' ');
     }
     line

@@ -4,16 +4,19 @@
 use std::collections::BTreeSet;
 use std::io::{self, Write};
 
+use crate::borderedges::border_edges;
 use crate::borders::borders;
 use crate::borderunits::border_roads;
-use crate::boundary::{meets, Edge, Extent};
+use crate::boundary::{cell_inside, counts, edges, meets, Edge, Extent};
 use crate::cases::cases;
 use crate::changes::pair;
 use crate::code::{self, letter_value, LENGTH, LETTERS};
-use crate::grid::{size, stretches, Cell, Point, Stretch, DEGREE, FINEST, MINUTE, STEP};
+use crate::grid::{size, stretches, Cell, Point, Stretch, COARSEST, DEGREE, FINEST, MINUTE, STEP};
+use crate::grid::{LAT_END, LON_END};
+use crate::questions::Question;
 use crate::quick;
 use crate::random::Random;
-use crate::requests::good_fields;
+use crate::requests::{good_fields, kinds_of, requests};
 use crate::shapes;
 use crate::trials::trials;
 use crate::unit::{self, Kind, Road, Unit};
@@ -40,7 +43,7 @@ pub fn agree(seed: u64, count: u64, output: &mut impl Write) -> io::Result<bool>
 pub fn selftest(output: &mut impl Write) -> io::Result<bool> {
     let mut good = cases(output)?;
     good &= agree(1, 2_000, output)?;
-    let tests: [(&str, fn() -> bool); 8] = [
+    let tests: [(&str, fn() -> bool); 13] = [
         ("letters", letters_good),
         ("grid", grid_good),
         ("meeting", meeting_good),
@@ -49,6 +52,11 @@ pub fn selftest(output: &mut impl Write) -> io::Result<bool> {
         ("changes of the same ground", changes_good),
         ("borders of reading and writing", borders_good),
         ("borders of coding by both roads", roads_good),
+        ("odd counts to the east and to the west", odd_good),
+        ("sides where cells start", sides_good),
+        ("inside and the plain search", inside_good),
+        ("borders of edges", edges_good),
+        ("answers of random questions", questions_good),
     ];
     for (name, test) in tests {
         let passed = test();
@@ -89,14 +97,19 @@ fn grid_good() -> bool {
 fn meeting_good() -> bool {
     let mut random = Random::new(2);
     (0..200_000).all(|_| {
-        let mut spot = || Point { lat: random.between(0, 9), lon: random.between(0, 9) };
+        // By 390,451,572 the largest are just below 4,294,967,295.
+        let scale = random.pick(&[1, 1_000_003, 390_451_572]);
+        let mut number = |least: i64, most: i64| random.between(least, most) * scale;
+        let mut spot = || Point { lat: number(0, 9), lon: number(0, 9) };
         let (a, b) = (spot(), spot());
         let mut stretch = || {
-            let from = random.between(1, 7);
-            Stretch { from, to: from + random.between(1, 4) }
+            let from = number(1, 7);
+            Stretch { from, to: from + number(1, 4) }
         };
         let cell = Cell { level: FINEST, lat: stretch(), lon: stretch() };
-        a == b || meets(&Edge { a, b }, &cell) == part_inside(a, b, &cell)
+        let asked = Question::Meets { a, b, lat: cell.lat, lon: cell.lon }.yes();
+        let rule = a != b && meets(&Edge { a, b }, &cell);
+        asked == rule && (a == b || rule == part_inside(a, b, &cell))
     })
 }
 
@@ -121,7 +134,8 @@ fn part_inside(a: Point, b: Point, cell: &Cell) -> bool {
             }
         }
     }
-    let less = |p: &(i64, i64), q: &(i64, i64)| p.0 * q.1 < q.0 * p.1;
+    let product = |a: i64, b: i64| i128::from(a) * i128::from(b);
+    let less = |p: &(i64, i64), q: &(i64, i64)| product(p.0, q.1) < product(q.0, p.1);
     // The ends 0 and 1 belong to the edge, the cell's sides not to its inside.
     low.iter().all(|p| less(p, &(1, 1)) && high.iter().all(|q| less(p, q)))
         && high.iter().all(|q| less(&(0, 1), q))
@@ -198,4 +212,105 @@ fn roads_good() -> bool {
     let answers = answers(border_roads);
     let all: Vec<&str> = answers.lines().collect();
     meet(&answers, "0 1 2 3 4 5 6 7 8") && all.chunks(2).all(|two| two[0] == two[two.len() - 1])
+}
+
+/// A boundary is closed, so an even count of edges crosses a latitude: those
+/// east of a point are odd in number when the others are.
+fn odd_good() -> bool {
+    let mut random = Random::new(6);
+    (0..50_000).all(|_| {
+        let most = random.pick(&[5, 100, u32::MAX.into()]);
+        let mut number = || random.between(0, most);
+        let point = Point { lat: number(), lon: number() };
+        let coordinates: Vec<i64> = (0..number() % 20).map(|_| number()).collect();
+        let all: Vec<Point> =
+            coordinates.chunks_exact(2).map(|c| Point { lat: c[0], lon: c[1] }).collect();
+        let crossing = |edge: &Edge| (edge.a.lat <= point.lat) != (edge.b.lat <= point.lat);
+        let elsewhere = |edge: &&Edge| crossing(edge) && !counts(edge, point);
+        let west = edges(&all).iter().filter(elsewhere).count();
+        Question::Odd { point, coordinates }.yes() == (west % 2 == 1)
+    })
+}
+
+/// With a boundary around everything, just the cells that follow each other
+/// without a gap from 0 are inside, in each direction.
+fn sides_good() -> bool {
+    let most = i64::from(u32::MAX);
+    let coordinates = vec![0, 0, 0, most, most, most, most, 0];
+    let asked = |level: u8, west: i64, south: i64| {
+        let coordinates = coordinates.clone();
+        Question::Inside { level: level.into(), west, south, coordinates }.yes()
+    };
+    (COARSEST..=FINEST).all(|level| {
+        let starts = |end: i64| {
+            let first = end - DEGREE;
+            let all: BTreeSet<i64> = stretches(level, first, end, end).map(|s| s.from).collect();
+            // Half seconds of the last degree and of one past it, and half
+            // steps of more than a minute.
+            let coarse = (0..2 * 7_200).map(move |k| first + k * (MINUTE / 120));
+            let fine = (0..8_000).map(move |k| first + k * (STEP / 2));
+            coarse.chain(fine).map(move |side| (side, all.contains(&side)))
+        };
+        starts(LON_END).all(|(west, good)| asked(level, west, 0) == good)
+            && starts(LAT_END).all(|(south, good)| asked(level, 0, south) == good)
+    })
+}
+
+/// The question asks for what the plain search tests in its cells, and says
+/// yes of the cell that search chooses and of none before it.
+fn inside_good() -> bool {
+    let mut random = Random::new(7);
+    (0..300).all(|_| {
+        let (corners, chosen) = shapes::small(&mut random);
+        let (Some(extent), all) = (Extent::of(&corners), edges(&corners)) else {
+            return false;
+        };
+        let cells = (COARSEST..=FINEST).flat_map(|level| {
+            stretches(level, extent.west, extent.east, LON_END).flat_map(move |lon| {
+                stretches(level, extent.south, extent.north, LAT_END).map(move |lat| Cell {
+                    level,
+                    lat,
+                    lon,
+                })
+            })
+        });
+        let asked = |cell: &Cell| {
+            let (level, west, south) = (cell.level.into(), cell.lon.from, cell.lat.from);
+            let coordinates = coordinates_of(&corners);
+            Question::Inside { level, west, south, coordinates }.yes()
+        };
+        let mut first = None;
+        let same = cells.take(2_000).all(|cell| {
+            let yes = asked(&cell);
+            if yes && first.is_none() {
+                first = Some(cell);
+            }
+            yes == cell_inside(&all, &cell)
+        });
+        same && chosen.is_none_or(|cell| asked(&cell)) && (first.is_none() || first == chosen)
+    })
+}
+
+/// The fixed questions are answered both ways, and the malformed ones not.
+fn edges_good() -> bool {
+    meet(&answers(border_edges), "? 0 1")
+}
+
+/// Each kind of random questions is answered yes about as often as no.
+fn questions_good() -> bool {
+    ["meets", "odd", "inside"].iter().all(|kind| {
+        let Some(share) = kinds_of(kind) else {
+            return false;
+        };
+        let (mut lines, mut answers) = (Vec::new(), Vec::new());
+        // Writing into a Vec does not fail.
+        let _ = requests(8, 5_000, &share, &mut lines);
+        let _ = trials(lines.as_slice(), &mut answers);
+        let count = |byte: u8| answers.iter().filter(|&&b| b == byte).count();
+        // A few lines are too long.
+        (2_000..3_000).contains(&count(b'1'))
+            && (2_000..3_000).contains(&count(b'0'))
+            && count(b'?') < 20
+            && answers.len() == 10_000
+    })
 }

@@ -50,7 +50,7 @@ fn in_range(p: Point) -> Point {
 }
 
 /// A place in one direction that is often a border of some cells.
-fn border(random: &mut Random, end: i64) -> i64 {
+pub fn border(random: &mut Random, end: i64) -> i64 {
     let degree = random.between(0, end / DEGREE - 1) * DEGREE;
     let minute = degree + random.between(0, 59) * MINUTE;
     let cut = random.pick(&[32, 48, 56, 60]);
@@ -143,7 +143,7 @@ fn mirrored(random: &mut Random, shape: Vec<Point>, height: i64, width: i64) -> 
     shape.into_iter().map(turn).collect()
 }
 
-fn at(lat: i64, lon: i64) -> Point {
+pub fn at(lat: i64, lon: i64) -> Point {
     Point { lat, lon }
 }
 

@@ -1,10 +1,11 @@
-//! The trials: requests to write, to read, and to code by either road, one a
-//! line, each answered by a line.
+//! The trials: requests to write, to read, to code by either road, and the
+//! questions, one a line, each answered by a line.
 
 use std::io::{self, BufRead, Write};
 
 use crate::code::{self, Fields, Rectangle, Refusal};
 use crate::lines::{number, unit_of, words, Line, Lines};
+use crate::questions::Question;
 use crate::unit::{self, Road, Unit};
 
 /// The most bytes of room a request may lend.
@@ -17,6 +18,7 @@ pub enum Request<'a> {
     Write { room: usize, fields: Fields },
     Read { text: &'a [u8] },
     Code { road: Road, room: usize, unit: Unit },
+    Ask(Question),
 }
 
 /// The request of a line, or none for a line of no such form.
@@ -30,7 +32,7 @@ pub fn request_of(line: &[u8]) -> Option<Request<'_>> {
         b"write" => return write_request(words),
         b"plain" => Road::Plain,
         b"quick" => Road::Quick,
-        _ => return None,
+        word => return question_request(word, words),
     };
     let room = room_of(words.next()?)?;
     let unit = unit_of(words)?;
@@ -49,6 +51,11 @@ fn write_request<'a>(mut words: impl Iterator<Item = &'a [u8]>) -> Option<Reques
     let [lat, lon, scale, east, west, south, north, number] = numbers.map(i64::from);
     let fields = Fields { lat, lon, scale, east, west, south, north, number };
     Some(Request::Write { room, fields })
+}
+
+fn question_request<'a>(word: &[u8], words: impl Iterator<Item = &'a [u8]>) -> Option<Request<'a>> {
+    let numbers: Option<Vec<i64>> = words.map(|word| number(word).map(i64::from)).collect();
+    Question::of(word, &numbers?).map(Request::Ask)
 }
 
 /// Answers requests until the input ends.
@@ -81,6 +88,7 @@ fn answer(request: &Request, output: &mut impl Write) -> io::Result<()> {
         Request::Code { road, room, unit } => {
             answer_room(*room, output, |room| unit::code(unit, room, *road))
         }
+        Request::Ask(question) => write!(output, "{}", u8::from(question.yes())),
     }
 }
 
