@@ -9,3 +9,4 @@ pub mod Scaling
 pub mod Cover
 pub mod Choosing
 pub mod Frame
+pub mod Ending

@@ -1,9 +1,11 @@
 // A unit: what coding is, and the frame that both roads share around their search. The definitions
 // are in specs/: the chosen cell in Chosen.antt, scale, spans, checks and coding in Unit.antt, the
 // frame in Frame.antt.
+mod ending;
 mod extents;
 mod scale;
 
+pub use ending::finish;
 pub use extents::extremes;
 pub use extents::first_above;
 use ground::Cell;
