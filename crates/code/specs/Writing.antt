@@ -103,12 +103,20 @@ pub writing-accepted : (room : List ℕ) (f : Fields) → ltb (length room) 20 �
 unfolding writing fieldChecks
 writing-accepted room f long point scale spans number = rw (long, point, scale, spans, number)
 
--- Fields that writing accepts are good, and the room has twenty bytes
-pub accepted-writing : (room : List ℕ) (f : Fields) → writing room f .said ≡ accepted → (20 ≤ length room) × Good f
+-- Fields for which writing says 0 are good, and the room has twenty bytes
+pub zero-writing : (room : List ℕ) (f : Fields) → writing room f .said .number ≡ 0 → (20 ≤ length room) × Good f
 unfolding writing fieldChecks
-accepted-writing room f e =
-    let p = passed (writeChecks room f) tt (ap (λ (s : Said). s .number) e) in
+zero-writing room f e =
+    let p = passed (writeChecks room f) tt e in
     (ltb-false (length room) 20 (p .0), good f (p .1 .0) (p .1 .1 .0) (p .1 .1 .1 .0) (ltb-false 1048575 (f .number) (p .1 .1 .1 .1 .0)))
+
+pub accepted-writing : (room : List ℕ) (f : Fields) → writing room f .said ≡ accepted → (20 ≤ length room) × Good f
+accepted-writing room f e = zero-writing room f (ap (λ (s : Said). s .number) e)
+
+-- Writing that says another number leaves the room
+pub refused-writing : (room : List ℕ) (f : Fields) → eqb (writing room f .said .number) 0 ≡ false → writing room f .room ≡ room
+unfolding writing
+refused-writing room f e = rw e
 
 -- Good fields are accepted by a room that has twenty
 pub good-writing : (room : List ℕ) (f : Fields) → 20 ≤ length room → Good f

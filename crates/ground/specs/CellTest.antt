@@ -4,7 +4,7 @@ use native.Mathlib.Omega.{arith}
 use mathlib.Core.Path.{_≡_, refl}
 use mathlib.Core.Bool.{Bool, true, false, cond, _&&_, false≢true}
 use lib.Dec.{leb, eqb}
-use borrow.Author.Tests.{leb-true}
+use borrow.Author.Tests.{leb-true, le-leb, eq-eqb}
 use Rattle.ground.specs.declared.Rectangle.{Rectangle}
 use Rattle.ground.specs.declared.Cell.{Cell}
 use Rattle.ground.specs.declared.cells.Sides.{Sides}
@@ -24,6 +24,18 @@ isCell c = leb 9 (c .level) && leb (c .level) 27 && isSide (c .level) (c .west .
 -- Its sides, or none
 unfoldable pub sidesFound : Cell → Sides
 sidesFound c = cond (isCell c) (Of (sidesOf c)) NoCell
+
+-- A cell passes the test
+pub is-cell : (c : Cell) → IsCell c → isCell c ≡ true
+unfolding isCell isSide sidesOf
+is-cell c p =
+    rw
+    (le-leb 9 (c .level) (p .coarsest),
+    le-leb (c .level) 27 (p .finest),
+    eq-eqb (lowSide (c .level) (c .west .0)) (c .west .0) (p .west),
+    le-leb (highSide (c .level) (c .west .0)) lonEnd (p .east-end),
+    eq-eqb (lowSide (c .level) (c .south .0)) (c .south .0) (p .south),
+    le-leb (highSide (c .level) (c .south .0)) latEnd (p .north-end))
 
 -- A cell's high side is above its low side
 pub low-below-high : (level a : ℕ) → 9 ≤ level → level ≤ 27 → a < highSide level a

@@ -7,7 +7,7 @@ use mathlib.Core.Path.{_≡_, refl, ap, ap₂, sym, subst, _∙_}
 use mathlib.Core.Logic.{_↔_}
 use mathlib.Core.Bool.{Bool, true, false, cond, _||_, true≢false}
 use mathlib.Core.List.{List, [], _∷_, map}
-use lib.Dec.{eqb, ltb}
+use lib.Dec.{T, eqb, ltb}
 use lib.ListN.{length, getD, take}
 use borrow.Author.Tests.{ltb-false, eqb-true, not-false}
 use Rattle.replies.specs.Replies.{Said, accepted, Outcome, outcome}
@@ -35,6 +35,7 @@ use Rattle.unit.specs.Extents.{greatestFrom, greatest, lats, lons, extre
 use Rattle.unit.specs.Chosen.{choose}
 use Rattle.unit.specs.Unit.{scaleOf, distance, spanCells, fieldsOf, aboveRange, badNumber, noCell, above31, spanAbove, codeAt, cornerChecks, codeChecks, coding}
 use Rattle.unit.specs.Scale.{scale-size, scale-written}
+use Rattle.unit.specs.Choosing.{InRange, in-range, choose-chosen}
 use Rattle.unit.specs.InExtents.{least-each, greatest-each, reference-lat, reference-lon, fields-least}
 
 -- So many cells of size s, less one, reach a distance, by less than s beyond it
@@ -93,8 +94,8 @@ pub record Passing (corners : List Point) (number : ℕ) (c : Cell) : Type 0 whe
   pub spans : above31 (unitFields corners number c) ≡ false
 
 -- A corner that check 4 does not refuse is within the range
-in-range : (v : Point) → aboveRange v ≡ false → (v .lat .0 ≤ latEnd) × (v .lon .0 ≤ lonEnd)
-in-range v e =
+corner-range : (v : Point) → aboveRange v ≡ false → (v .lat .0 ≤ latEnd) × (v .lon .0 ≤ lonEnd)
+corner-range v e =
     let t = neither (ltb latEnd (v .lat .0)) (ltb lonEnd (v .lon .0)) e in
     (ltb-false latEnd (v .lat .0) (t .0), ltb-false lonEnd (v .lon .0) (t .1))
 
@@ -134,12 +135,12 @@ module _ {corners : List Point} {number : ℕ} {c : Cell} (p : Passing corners n
   north-end : extremesOf corners .north .0 ≤ latEnd
   unfolding extremesOf
   north-end =
-      greatest-most (λ v. v .lat .0) (λ v. aboveRange v ≡ false) latEnd (λ v e. in-range v e .0) corners (p .range)
+      greatest-most (λ v. v .lat .0) (λ v. aboveRange v ≡ false) latEnd (λ v e. corner-range v e .0) corners (p .range)
 
   east-end : extremesOf corners .east .0 ≤ lonEnd
   unfolding extremesOf
   east-end =
-      greatest-most (λ v. v .lon .0) (λ v. aboveRange v ≡ false) lonEnd (λ v e. in-range v e .1) corners (p .range)
+      greatest-most (λ v. v .lon .0) (λ v. aboveRange v ≡ false) lonEnd (λ v e. corner-range v e .1) corners (p .range)
 
   -- The reference lies between the extremes
   placed-lat : Placed (extremesOf corners .south .0) (extremesOf corners .north .0) (cornerOf (locationCell c) .lat .0)
@@ -223,9 +224,13 @@ pub record ReadBack (corners : List Point) (told : Told) : Type 0 where
   pub covers : Covers (extremesOf corners) (told .rectangle) (sizeOf (told .fields .scale))
   pub held : (i : ℕ) → i < length corners → (d : Point) → Holds (told .rectangle) (getD corners i d)
 
-module _ (room numbers : List ℕ) (kind : Kind) (number : ℕ)
-    (found : (c : Cell) → choose (cornersOf numbers) ≡ At c → IsCell c × (inside (cornersOf numbers) c ≡ true)) where
-  -- Where the cell found is a cell that is inside, coding that accepts codes its unit
+-- What passes a test, the test says
+said-true : (b : Bool) → T b → b ≡ true
+said-true true t = refl
+said-true false t = absurd t
+
+module _ (room numbers : List ℕ) (kind : Kind) (number : ℕ) where
+  -- Coding that accepts codes its unit
   pub coded : coding room numbers kind number .said ≡ accepted → UnitCoded room numbers kind number
   unfolding coding cornerChecks
   coded e =
@@ -235,6 +240,7 @@ module _ (room numbers : List ℕ) (kind : Kind) (number : ℕ)
       let q = p .1 .1 .1 in
       let extents = neither (ltb 7372800 (latExtent r)) (ltb 7372800 (lonExtent r)) (q .1 .0) in
       at (choose corners) refl
+      (in-range corners (q .0))
       (ltb-false (length room) 20 (p .0))
       (none-such aboveRange corners (ltb-false (firstPlace aboveRange corners) (length corners) (q .0)))
       (ltb-false 7372800 (latExtent r) (extents .0))
@@ -243,16 +249,16 @@ module _ (room numbers : List ℕ) (kind : Kind) (number : ℕ)
       (q .1 .1 .1 .0)
       (q .1 .1 .1 .1 .0)
     where
-      at : (choice : Choice) → choose (cornersOf numbers) ≡ choice → 20 ≤ length room
+      at : (choice : Choice) → choose (cornersOf numbers) ≡ choice → InRange (cornersOf numbers) → 20 ≤ length room
           → Each (λ (v : Point). aboveRange v ≡ false) (cornersOf numbers)
           → latExtent (extremesOf (cornersOf numbers)) ≤ degree → lonExtent (extremesOf (cornersOf numbers)) ≤ degree
           → number ≤ 1048575 → noCell choice ≡ false → spanAbove (extremesOf (cornersOf numbers)) number choice ≡ false
           → UnitCoded room numbers kind number
-      at (At c) chosen long range lat lon unit some spans =
-          let is = found c chosen in
+      at (At c) chosen ran long range lat lon unit some spans =
+          let is = choose-chosen (cornersOf numbers) ran chosen in
           let passing : Passing (cornersOf numbers) number c = record {
-            cell = is .0;
-            within = is .1;
+            cell = is .cell;
+            within = said-true (inside (cornersOf numbers) c) (is .within);
             range = range;
             lat = lat;
             lon = lon;
@@ -267,7 +273,7 @@ module _ (room numbers : List ℕ) (kind : Kind) (number : ℕ)
                 ap₂ (λ (said : Said) (choice : Choice). outcome said (codeAt (extremesOf (cornersOf numbers)) number choice) room) e chosen
                 ∙ sym (good-writing room (unitFields (cornersOf numbers) number c) long (fields-good passing));
           }
-      at Nowhere chosen long range lat lon unit some spans = absurd (true≢false some)
+      at Nowhere chosen ran long range lat lon unit some spans = absurd (true≢false some)
 
   -- Bytes 0 to 19 of the room then tell the fields of the unit
   pub reading-coded : (e : coding room numbers kind number .said ≡ accepted)

@@ -6,7 +6,7 @@ pub mod InExtents
 pub mod SameGround
 pub mod Widening
 pub mod Scaling
-pub mod Cover
 pub mod Choosing
+pub mod Cover
 pub mod Frame
 pub mod Ending
