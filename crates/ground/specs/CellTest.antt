@@ -29,13 +29,14 @@ sidesFound c = cond (isCell c) (Of (sidesOf c)) NoCell
 pub is-cell : (c : Cell) → IsCell c → isCell c ≡ true
 unfolding isCell isSide sidesOf
 is-cell c p =
-    rw
-    (le-leb 9 (c .level) (p .coarsest),
-    le-leb (c .level) 27 (p .finest),
-    eq-eqb (lowSide (c .level) (c .west .0)) (c .west .0) (p .west),
-    le-leb (highSide (c .level) (c .west .0)) lonEnd (p .east-end),
-    eq-eqb (lowSide (c .level) (c .south .0)) (c .south .0) (p .south),
-    le-leb (highSide (c .level) (c .south .0)) latEnd (p .north-end))
+    rw (
+      le-leb 9 (c .level) (p .coarsest),
+      le-leb (c .level) 27 (p .finest),
+      eq-eqb (lowSide (c .level) (c .west .0)) (c .west .0) (p .west),
+      le-leb (highSide (c .level) (c .west .0)) lonEnd (p .east-end),
+      eq-eqb (lowSide (c .level) (c .south .0)) (c .south .0) (p .south),
+      le-leb (highSide (c .level) (c .south .0)) latEnd (p .north-end),
+    )
 
 -- A cell's high side is above its low side
 pub low-below-high : (level a : ℕ) → 9 ≤ level → level ≤ 27 → a < highSide level a

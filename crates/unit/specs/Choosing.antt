@@ -302,7 +302,7 @@ greatest-from-most f m x [] h t = h
 greatest-from-most f m x (v ∷ vs) h t = greatest-from-most f m (max x (f v)) vs (omega (arith, t .0)) (t .1)
 
 -- and so for all of them
-greatest-most : (f : Point → ℕ) (m : ℕ) (vs : List Point) → Each (λ (v : Point). f v ≤ m) vs → greatest (map f vs) ≤ m
+pub greatest-most : (f : Point → ℕ) (m : ℕ) (vs : List Point) → Each (λ (v : Point). f v ≤ m) vs → greatest (map f vs) ≤ m
 greatest-most f m [] t = omega arith
 greatest-most f m (v ∷ vs) t = greatest-from-most f m (f v) vs (t .0) (t .1)
 

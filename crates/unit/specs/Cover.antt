@@ -35,7 +35,7 @@ use Rattle.unit.specs.Extents.{greatestFrom, greatest, lats, lons, extre
 use Rattle.unit.specs.Chosen.{choose}
 use Rattle.unit.specs.Unit.{scaleOf, distance, spanCells, fieldsOf, aboveRange, badNumber, noCell, above31, spanAbove, codeAt, cornerChecks, codeChecks, coding}
 use Rattle.unit.specs.Scale.{scale-size, scale-written}
-use Rattle.unit.specs.Choosing.{InRange, in-range, choose-chosen}
+use Rattle.unit.specs.Choosing.{greatest-most, InRange, in-range, choose-chosen}
 use Rattle.unit.specs.InExtents.{least-each, greatest-each, reference-lat, reference-lon, fields-least}
 
 -- So many cells of size s, less one, reach a distance, by less than s beyond it
@@ -87,27 +87,11 @@ unitFields corners number c = fieldsOf (extremesOf corners) number c
 pub record Passing (corners : List Point) (number : ℕ) (c : Cell) : Type 0 where
   pub cell : IsCell c
   pub within : inside corners c ≡ true
-  pub range : Each (λ (v : Point). aboveRange v ≡ false) corners
+  pub range : InRange corners
   pub lat : latExtent (extremesOf corners) ≤ degree
   pub lon : lonExtent (extremesOf corners) ≤ degree
   pub unit : number ≤ 1048575
   pub spans : above31 (unitFields corners number c) ≡ false
-
--- A corner that check 4 does not refuse is within the range
-corner-range : (v : Point) → aboveRange v ≡ false → (v .lat .0 ≤ latEnd) × (v .lon .0 ≤ lonEnd)
-corner-range v e =
-    let t = neither (ltb latEnd (v .lat .0)) (ltb lonEnd (v .lon .0)) e in
-    (ltb-false latEnd (v .lat .0) (t .0), ltb-false lonEnd (v .lon .0) (t .1))
-
--- What each corner has at most, the greatest is at most
-greatest-most : (f : Point → ℕ) (P : Point → Type 0) (end : ℕ) → ((v : Point) → P v → f v ≤ end) → (corners : List Point)
-    → Each P corners → greatest (map f corners) ≤ end
-greatest-most f P end so [] t = omega arith
-greatest-most f P end so (v ∷ vs) t = from (f v) (so v (t .0)) vs (t .1)
-  where
-    from : (x : ℕ) → x ≤ end → (vs : List Point) → Each P vs → greatestFrom x (map f vs) ≤ end
-    from x h [] t = h
-    from x h (v ∷ vs) t = from (max x (f v)) (omega (arith, so v (t .0))) vs (t .1)
 
 -- What each element of a list is, the one at a place is
 each-at : {A : Type 0} (P : A → Type 0) (xs : List A) → Each P xs → (i : ℕ) → i < length xs → (d : A) → P (getD xs i d)
@@ -134,13 +118,11 @@ module _ {corners : List Point} {number : ℕ} {c : Cell} (p : Passing corners n
   -- The unit's greatest latitude and longitude are within the range
   north-end : extremesOf corners .north .0 ≤ latEnd
   unfolding extremesOf
-  north-end =
-      greatest-most (λ v. v .lat .0) (λ v. aboveRange v ≡ false) latEnd (λ v e. corner-range v e .0) corners (p .range)
+  north-end = greatest-most (λ v. v .lat .0) latEnd corners (p .range .lat)
 
   east-end : extremesOf corners .east .0 ≤ lonEnd
   unfolding extremesOf
-  east-end =
-      greatest-most (λ v. v .lon .0) (λ v. aboveRange v ≡ false) lonEnd (λ v e. corner-range v e .1) corners (p .range)
+  east-end = greatest-most (λ v. v .lon .0) lonEnd corners (p .range .lon)
 
   -- The reference lies between the extremes
   placed-lat : Placed (extremesOf corners .south .0) (extremesOf corners .north .0) (cornerOf (locationCell c) .lat .0)
@@ -196,18 +178,8 @@ module _ {corners : List Point} {number : ℕ} {c : Cell} (p : Passing corners n
         north = omega (arith, k .lat .above, held .north);
       }
 
--- Where the first element that passes a test is past the end, none does
-none-such : {A : Type 0} (test : A → Bool) (xs : List A) → length xs ≤ firstPlace test xs → Each (λ (x : A). test x ≡ false) xs
-none-such test [] h = tt
-none-such {A} test (x ∷ xs) h = at (test x) refl h (none-such test xs)
-  where
-    at : (b : Bool) → test x ≡ b → length (x ∷ xs) ≤ cond b 0 (suc (firstPlace test xs))
-        → (length xs ≤ firstPlace test xs → Each (λ (x : A). test x ≡ false) xs) → (test x ≡ false) × Each (λ (x : A). test x ≡ false) xs
-    at true e k ih = let none : ⊥ = omega arith in absurd none
-    at false e k ih = (e, ih (omega arith))
-
 -- A number that check 6 does not refuse is at most 1,048,575
-number-most : (kind : Kind) (number : ℕ) → badNumber kind number ≡ false → number ≤ 1048575
+pub number-most : (kind : Kind) (number : ℕ) → badNumber kind number ≡ false → number ≤ 1048575
 number-most Building number e = within 1 1048575 number e .1
 number-most Other number e = let none : number ≡ 0 = eqb-true number 0 (not-false (eqb number 0) e) in omega arith
 
@@ -225,7 +197,7 @@ pub record ReadBack (corners : List Point) (told : Told) : Type 0 where
   pub held : (i : ℕ) → i < length corners → (d : Point) → Holds (told .rectangle) (getD corners i d)
 
 -- What passes a test, the test says
-said-true : (b : Bool) → T b → b ≡ true
+pub said-true : (b : Bool) → T b → b ≡ true
 said-true true t = refl
 said-true false t = absurd t
 
@@ -242,7 +214,6 @@ module _ (room numbers : List ℕ) (kind : Kind) (number : ℕ) where
       at (choose corners) refl
       (in-range corners (q .0))
       (ltb-false (length room) 20 (p .0))
-      (none-such aboveRange corners (ltb-false (firstPlace aboveRange corners) (length corners) (q .0)))
       (ltb-false 7372800 (latExtent r) (extents .0))
       (ltb-false 7372800 (lonExtent r) (extents .1))
       (number-most kind number (q .1 .1 .0))
@@ -250,12 +221,11 @@ module _ (room numbers : List ℕ) (kind : Kind) (number : ℕ) where
       (q .1 .1 .1 .1 .0)
     where
       at : (choice : Choice) → choose (cornersOf numbers) ≡ choice → InRange (cornersOf numbers) → 20 ≤ length room
-          → Each (λ (v : Point). aboveRange v ≡ false) (cornersOf numbers)
           → latExtent (extremesOf (cornersOf numbers)) ≤ degree → lonExtent (extremesOf (cornersOf numbers)) ≤ degree
           → number ≤ 1048575 → noCell choice ≡ false → spanAbove (extremesOf (cornersOf numbers)) number choice ≡ false
           → UnitCoded room numbers kind number
-      at (At c) chosen ran long range lat lon unit some spans =
-          let is = choose-chosen (cornersOf numbers) ran chosen in
+      at (At c) chosen range long lat lon unit some spans =
+          let is = choose-chosen (cornersOf numbers) range chosen in
           let passing : Passing (cornersOf numbers) number c = record {
             cell = is .cell;
             within = said-true (inside (cornersOf numbers) c) (is .within);
@@ -273,7 +243,7 @@ module _ (room numbers : List ℕ) (kind : Kind) (number : ℕ) where
                 ap₂ (λ (said : Said) (choice : Choice). outcome said (codeAt (extremesOf (cornersOf numbers)) number choice) room) e chosen
                 ∙ sym (good-writing room (unitFields (cornersOf numbers) number c) long (fields-good passing));
           }
-      at Nowhere chosen ran long range lat lon unit some spans = absurd (true≢false some)
+      at Nowhere chosen range long lat lon unit some spans = absurd (true≢false some)
 
   -- Bytes 0 to 19 of the room then tell the fields of the unit
   pub reading-coded : (e : coding room numbers kind number .said ≡ accepted)

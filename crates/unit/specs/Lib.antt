@@ -10,3 +10,4 @@ pub mod Choosing
 pub mod Cover
 pub mod Frame
 pub mod Ending
+pub mod Framing

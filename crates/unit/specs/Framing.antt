@@ -1,0 +1,119 @@
+-- The frame makes coding whole: where one of checks 1 to 6 refuses, coding says what it says and leaves the room; else coding is its end
+-- around the chosen cell. Assumes nothing.
+use Prim.Native.Nat.{ℕ, zero, suc, _≤_}
+use native.Mathlib.Omega.{arith}
+use mathlib.Core.Path.{_≡_, refl, ap, sym, _∙_}
+use mathlib.Core.Bool.{Bool, true, false, cond, _||_, true≢false}
+use mathlib.Core.List.{List, [], _∷_}
+use lib.Dec.{eqb, ltb}
+use lib.ListN.{length, take, drop}
+use borrow.Author.Tests.{ltb-false, ne-eqb, le-ltb}
+use Rattle.replies.specs.Replies.{Said, refused, accepted, Check, check, run, Outcome, outcome}
+use Rattle.replies.specs.Tests.{neither, none-of, Passed, passed}
+use Rattle.ground.specs.declared.Point.{Point}
+use Rattle.ground.specs.declared.Rectangle.{Rectangle}
+use Rattle.ground.specs.declared.Cell.{Cell}
+use Rattle.ground.specs.Levels.{degree}
+use Rattle.ground.specs.CellTest.{is-cell}
+use Rattle.code.specs.declared.Fields.{Fields}
+use Rattle.code.specs.Code.{writing, codeOf}
+use Rattle.code.specs.Writing.{Good, good-writing, zero-writing, refused-writing}
+use Rattle.boundary.specs.Boundary.{inside}
+use Rattle.boundary.specs.Corners.{cornersOf}
+use Rattle.unit.specs.declared.Kind.{Kind}
+use Rattle.unit.specs.declared.Choice.{Choice}
+use Rattle.unit.specs.declared.Choice.the-variants.{At, Nowhere}
+use Rattle.unit.specs.Extents.{extremesOf, latExtent, lonExtent}
+use Rattle.unit.specs.Chosen.{Chosen, choose}
+use Rattle.unit.specs.Unit.{fieldsOf, noCell, above31, spanAbove, codeAt, cornerChecks, codeChecks, coding}
+use Rattle.unit.specs.Choosing.{InRange, in-range, choose-chosen}
+use Rattle.unit.specs.Cover.{Passing, fields-good, number-most, said-true}
+use Rattle.unit.specs.Frame.{ending, firstChecks, finishing}
+use Rattle.unit.specs.Ending.{finish-cell, finish-nowhere}
+
+-- Where one of the first rows of a table refuses, the table says what they say
+first-rows : (n : ℕ) (cs : List Check) → (run (take n cs) .number ≡ 0 → ⊥) → run cs ≡ run (take n cs)
+first-rows zero cs h = absurd (h refl)
+first-rows (suc n) [] h = refl
+first-rows (suc n) (c ∷ cs) h = at (c .refuses) h (first-rows n cs)
+  where
+    at : (b : Bool) → (cond b (refused (c .number) (c .place)) (run (take n cs)) .number ≡ 0 → ⊥)
+        → ((run (take n cs) .number ≡ 0 → ⊥) → run cs ≡ run (take n cs))
+        → cond b (refused (c .number) (c .place)) (run cs) ≡ cond b (refused (c .number) (c .place)) (run (take n cs))
+    at true k ih = refl
+    at false k ih = ih k
+
+-- and where none of them does, it says what the others say
+other-rows : (n : ℕ) (cs : List Check) → Passed (take n cs) → run cs ≡ run (drop n cs)
+other-rows zero cs t = refl
+other-rows (suc n) [] t = refl
+other-rows (suc n) (c ∷ cs) t = rw (t .0) (other-rows n cs (t .1))
+
+-- Good fields have no span above 31
+good-spans : (f : Fields) → Good f → above31 f ≡ false
+good-spans f g =
+    none-of (none-of (le-ltb 31 (f .east) (g .east .1)) (le-ltb 31 (f .west) (g .west .1)))
+    (none-of (le-ltb 31 (f .south) (g .south .1)) (le-ltb 31 (f .north) (g .north .1)))
+
+-- What the end of coding is for fields that a span above 31 alone can spoil
+spans-end : (room : List ℕ) (f : Fields) → 20 ≤ length room → (above31 f ≡ false → Good f)
+    → outcome (run (check 8 (above31 f) ∷ [])) (codeOf f) room ≡ ending (writing room f)
+spans-end room f long so = at (above31 f) refl
+  where
+    at : (b : Bool) → above31 f ≡ b → outcome (run (check 8 b ∷ [])) (codeOf f) room ≡ ending (writing room f)
+    at false e = ap ending (sym (good-writing room f long (so e)))
+    at true e =
+        let wrong : writing room f .said .number ≡ 0 → ⊥ =
+        λ k. true≢false (sym e ∙ good-spans f (zero-writing room f k .1)) in
+        let not-0 = ne-eqb (writing room f .said .number) 0 wrong in
+        rw (not-0, refused-writing room f not-0)
+
+module _ (room numbers : List ℕ) (kind : Kind) (number : ℕ) where
+  -- Where one of checks 1 to 6 refuses, coding says what it says and leaves the room
+  pub framed-refused : (run (firstChecks room numbers kind number) .number ≡ 0 → ⊥)
+      → coding room numbers kind number ≡ record { said = run (firstChecks room numbers kind number); room = room }
+  unfolding coding firstChecks
+  framed-refused h =
+      let same = first-rows 6 (codeChecks room numbers kind number) h in
+      rw (same, ne-eqb (run (take 6 (codeChecks room numbers kind number)) .number) 0 h)
+
+  -- Else coding is its end around the chosen cell
+  pub framed : run (firstChecks room numbers kind number) .number ≡ 0
+      → coding room numbers kind number ≡ finishing room (extremesOf (cornersOf numbers)) number (choose (cornersOf numbers))
+  unfolding coding firstChecks cornerChecks
+  framed e =
+      let corners : List Point = cornersOf numbers in
+      let r : Rectangle = extremesOf corners in
+      let p = passed (take 6 (codeChecks room numbers kind number)) tt e in
+      let q = p .1 .1 .1 in
+      let extents = neither (ltb 7372800 (latExtent r)) (ltb 7372800 (lonExtent r)) (q .1 .0) in
+      ap (λ (s : Said). outcome s (codeAt r number (choose corners)) room) (other-rows 6 (codeChecks room numbers kind number) p)
+      ∙ at (choose corners) refl
+      (ltb-false (length room) 20 (p .0))
+      (in-range corners (q .0))
+      (ltb-false 7372800 (latExtent r) (extents .0))
+      (ltb-false 7372800 (lonExtent r) (extents .1))
+      (number-most kind number (q .1 .1 .0))
+    where
+      at : (choice : Choice) → choose (cornersOf numbers) ≡ choice → 20 ≤ length room → InRange (cornersOf numbers)
+          → latExtent (extremesOf (cornersOf numbers)) ≤ degree → lonExtent (extremesOf (cornersOf numbers)) ≤ degree
+          → number ≤ 1048575
+          → outcome
+          (run (check 7 (noCell choice) ∷ check 8 (spanAbove (extremesOf (cornersOf numbers)) number choice) ∷ []))
+          (codeAt (extremesOf (cornersOf numbers)) number choice)
+          room
+          ≡ finishing room (extremesOf (cornersOf numbers)) number choice
+      at (At c) chosen long range lat lon unit =
+          let is : Chosen (cornersOf numbers) c = choose-chosen (cornersOf numbers) range chosen in
+          let f : Fields = fieldsOf (extremesOf (cornersOf numbers)) number c in
+          let so : above31 f ≡ false → Good f = λ spans. fields-good (record {
+            cell = is .cell;
+            within = said-true (inside (cornersOf numbers) c) (is .within);
+            range = range;
+            lat = lat;
+            lon = lon;
+            unit = unit;
+            spans = spans;
+          }) in
+          spans-end room f long so ∙ finish-cell room (extremesOf (cornersOf numbers)) number c (is-cell c (is .cell))
+      at Nowhere chosen long range lat lon unit = finish-nowhere room (extremesOf (cornersOf numbers)) number
