@@ -13,7 +13,7 @@ use Rattle.code.specs.declared.Reading.the-variants as reads
 use Rattle.code.specs.Code.{says, leaves, Told, tells}
 
 -- The first answer of a list that has a number, or the one named
-abbrev sought : {A : Type 0} → (A → ℕ) → ℕ → A → List A → A
+abbrev pub sought : {A : Type 0} → (A → ℕ) → ℕ → A → List A → A
 sought number n other [] = other
 sought number n other (a ∷ rest) = cond (eqb (number a) n) a (sought number n other rest)
 

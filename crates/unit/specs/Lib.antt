@@ -11,3 +11,4 @@ pub mod Cover
 pub mod Frame
 pub mod Ending
 pub mod Framing
+pub mod Once
