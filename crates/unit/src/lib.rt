@@ -1,15 +1,19 @@
 // A unit: what coding is, and the frame that both roads share around their search. The definitions
 // are in specs/: the chosen cell in Chosen.antt, scale, spans, checks and coding in Unit.antt, the
 // frame in Frame.antt.
+mod checking;
 mod ending;
 mod extents;
 mod scale;
 
+pub use checking::checks;
 pub use ending::finish;
 pub use extents::extremes;
 pub use extents::first_above;
 use ground::Cell;
 pub use scale::scale_of;
+ghost use mathlib.Core.Path.{_≡_};
+ghost use Rattle.unit.specs.Frame.{says};
 
 // The kind of a unit.
 pub enum Kind {
@@ -34,4 +38,38 @@ pub enum Coded {
     Number,
     NoCell,
     Span,
+}
+
+// The number of an answer of coding.
+pub fn coded_number(answer: Coded) -> u32
+    ensures { λ r. ⌜ r ≡ says answer .number ⌝ }
+{
+    match answer {
+        Coded::Accepted => 0,
+        Coded::Output => 1,
+        Coded::Pairs => 2,
+        Coded::Corners => 3,
+        Coded::Range(_) => 4,
+        Coded::Extent => 5,
+        Coded::Number => 6,
+        Coded::NoCell => 7,
+        Coded::Span => 8,
+    }
+}
+
+// The place of an answer of coding: the first corner above its range, or 0.
+pub fn coded_place(answer: Coded) -> u32
+    ensures { λ r. ⌜ r ≡ says answer .place ⌝ }
+{
+    match answer {
+        Coded::Accepted => 0,
+        Coded::Output => 0,
+        Coded::Pairs => 0,
+        Coded::Corners => 0,
+        Coded::Range(corner) => corner,
+        Coded::Extent => 0,
+        Coded::Number => 0,
+        Coded::NoCell => 0,
+        Coded::Span => 0,
+    }
 }
