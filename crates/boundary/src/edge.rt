@@ -3,7 +3,7 @@
 ghost use mathlib.Core.Path.{_≡_};
 ghost use mathlib.Core.Bool.{_&&_};
 ghost use lib.Dec.{leb};
-ghost use Rattle.boundary.specs.Boundary.{beyond as Boundary·beyond, allLeft, misses as Boundary·misses, crossesEast};
+ghost use Rattle.boundary.specs.Boundary.{left as Boundary·left, beyond as Boundary·beyond, allLeft, misses as Boundary·misses, crossesEast};
 ghost use Rattle.boundary.specs.Extreme.{extremeLat, extremeLon};
 ghost use Rattle.boundary.specs.Missing.{Ordered};
 ghost use Rattle.boundary.specs.Boundary.{edge};
@@ -68,15 +68,20 @@ fn extreme_lon(a: Point, b: Point, r: Rectangle) -> Lon
     r.west
 }
 
+// Whether a point, by its latitude and longitude, lies right of the line from a to b.
+fn right(a: Point, b: Point, lat: Lat, lon: Lon) -> bool
+    ensures { λ m. ⌜ m ≡ Boundary·left b a (record { lat = lat; lon = lon }) ⌝ }
+{
+    left(b, a, Point { lat, lon })
+}
+
 // Whether the corners of a rectangle whose sides are in order lie all left of the line or on it: the
 // one furthest right tells.
 fn ordered_left(a: Point, b: Point, r: Rectangle) -> bool
     requires { ⌜ Ordered r ⌝ }
     ensures { λ m. ⌜ m ≡ allLeft a b r ⌝ }
 {
-    let lat = extreme_lat(a, b, r);
-    let lon = extreme_lon(a, b, r);
-    !left(b, a, Point { lat, lon })
+    !right(a, b, extreme_lat(a, b, r), extreme_lon(a, b, r))
 }
 
 // The same for any rectangle, corner by corner.
@@ -87,44 +92,16 @@ fn each_left(a: Point, b: Point, r: Rectangle) -> bool
     let east = r.east;
     let south = r.south;
     let north = r.north;
-    if left(
-        b,
-        a,
-        Point {
-            lat: south,
-            lon: west,
-        },
-    ) {
+    if right(a, b, south, west) {
         return false;
     }
-    if left(
-        b,
-        a,
-        Point {
-            lat: south,
-            lon: east,
-        },
-    ) {
+    if right(a, b, south, east) {
         return false;
     }
-    if left(
-        b,
-        a,
-        Point {
-            lat: north,
-            lon: west,
-        },
-    ) {
+    if right(a, b, north, west) {
         return false;
     }
-    !left(
-        b,
-        a,
-        Point {
-            lat: north,
-            lon: east,
-        },
-    )
+    !right(a, b, north, east)
 }
 
 // Whether an edge misses the open inside of a rectangle, for all points and rectangles.

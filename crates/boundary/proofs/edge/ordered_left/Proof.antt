@@ -16,14 +16,14 @@ extreme-lat-requires c κs = search needs
 extreme-lon-requires : tie.Need-extreme-lon-requires
 extreme-lon-requires c κs = search needs
 
-left-requires : tie.Need-left-requires
-left-requires c κs = search needs
+right-requires : tie.Need-right-requires
+right-requires c κs = search needs
 
 returns : tie.Need-returns
 returns c =
     let a = c .before .before .before .args in
     ap not
-    (c .left .ensures
+    (c .right .ensures
     ∙ ap₂ (λ (y : Lat) (x : Lon). left (a .b) (a .a) (record { lat = y; lon = x })) (c .before .before .extreme-lat .ensures)
     (c .before .extreme-lon .ensures))
     ∙ sym (not-right (a .a) (a .b) (extreme (a .a) (a .b) (a .r)))
@@ -31,4 +31,4 @@ returns c =
 
 pub ordered-left-spec : {M : Type 1} → statement M
 ordered-left-spec =
-    tie.close (tie.spec extreme-lat-requires extreme-lon-requires left-requires returns)
+    tie.close (tie.spec extreme-lat-requires extreme-lon-requires right-requires returns)
