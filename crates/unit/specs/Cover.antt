@@ -10,9 +10,9 @@ use mathlib.Core.List.{List, [], _∷_, map}
 use lib.Dec.{T, eqb, ltb}
 use lib.ListN.{length, getD, take}
 use borrow.Author.Tests.{ltb-false, eqb-true, not-false}
-use Rattle.replies.specs.Replies.{Said, accepted, Outcome, outcome}
+use Rattle.replies.specs.Replies.{Said, accepted, Check, Outcome, outcome}
 use Rattle.replies.specs.Places.{firstPlace}
-use Rattle.replies.specs.Tests.{neither, passed}
+use Rattle.replies.specs.Tests.{neither, Passed, passed}
 use Rattle.ground.specs.declared.Point.{Point}
 use Rattle.ground.specs.declared.Rectangle.{Rectangle}
 use Rattle.ground.specs.declared.Cell.{Cell}
@@ -196,54 +196,77 @@ pub record ReadBack (corners : List Point) (told : Told) : Type 0 where
   pub covers : Covers (extremesOf corners) (told .rectangle) (sizeOf (told .fields .scale))
   pub held : (i : ℕ) → i < length corners → (d : Point) → Holds (told .rectangle) (getD corners i d)
 
+-- What checks 1 to 6 leave
+pub record Entered (room : List ℕ) (corners : List Point) (number : ℕ) : Type 0 where
+  pub long : 20 ≤ length room
+  pub range : InRange corners
+  pub lat : latExtent (extremesOf corners) ≤ degree
+  pub lon : lonExtent (extremesOf corners) ≤ degree
+  pub unit : number ≤ 1048575
+
+pub entered : (room numbers : List ℕ) (kind : Kind) (number : ℕ) → Passed (take 6 (codeChecks room numbers kind number))
+    → Entered room (cornersOf numbers) number
+unfolding cornerChecks
+entered room numbers kind number p =
+    let r : Rectangle = extremesOf (cornersOf numbers) in
+    let q = p .1 .1 .1 in
+    let extents = neither (ltb 7372800 (latExtent r)) (ltb 7372800 (lonExtent r)) (q .1 .0) in
+    record {
+      long = ltb-false (length room) 20 (p .0);
+      range = in-range (cornersOf numbers) (q .0);
+      lat = ltb-false 7372800 (latExtent r) (extents .0);
+      lon = ltb-false 7372800 (lonExtent r) (extents .1);
+      unit = number-most kind number (q .1 .1 .0);
+    }
+
 -- What passes a test, the test says
-pub said-true : (b : Bool) → T b → b ≡ true
+said-true : (b : Bool) → T b → b ≡ true
 said-true true t = refl
 said-true false t = absurd t
+
+-- With them the cell found passes, where its spans do
+pub passing : {room : List ℕ} {corners : List Point} {number : ℕ} → Entered room corners number → {c : Cell} → choose corners ≡ At c
+    → above31 (unitFields corners number c) ≡ false → Passing corners number c
+passing {room} {corners} h {c} chosen spans =
+    let is = choose-chosen corners (h .range) chosen in
+    record {
+      cell = is .cell;
+      within = said-true (inside corners c) (is .within);
+      range = h .range;
+      lat = h .lat;
+      lon = h .lon;
+      unit = h .unit;
+      spans = spans;
+    }
+
+-- The first rows of a table that passes pass
+passed-take : (n : ℕ) (cs : List Check) → Passed cs → Passed (take n cs)
+passed-take zero cs p = tt
+passed-take (suc n) [] p = tt
+passed-take (suc n) (c ∷ cs) p = (p .0, passed-take n cs (p .1))
 
 module _ (room numbers : List ℕ) (kind : Kind) (number : ℕ) where
   -- Coding that accepts codes its unit
   pub coded : coding room numbers kind number .said ≡ accepted → UnitCoded room numbers kind number
   unfolding coding cornerChecks
   coded e =
-      let corners : List Point = cornersOf numbers in
-      let r : Rectangle = extremesOf corners in
       let p = passed (codeChecks room numbers kind number) tt (ap (λ (s : Said). s .number) e) in
-      let q = p .1 .1 .1 in
-      let extents = neither (ltb 7372800 (latExtent r)) (ltb 7372800 (lonExtent r)) (q .1 .0) in
-      at (choose corners) refl
-      (in-range corners (q .0))
-      (ltb-false (length room) 20 (p .0))
-      (ltb-false 7372800 (latExtent r) (extents .0))
-      (ltb-false 7372800 (lonExtent r) (extents .1))
-      (number-most kind number (q .1 .1 .0))
-      (q .1 .1 .1 .0)
-      (q .1 .1 .1 .1 .0)
+      let last = p .1 .1 .1 .1 .1 .1 in
+      at (choose (cornersOf numbers)) refl (entered room numbers kind number (passed-take 6 (codeChecks room numbers kind number) p))
+      (last .0) (last .1 .0)
     where
-      at : (choice : Choice) → choose (cornersOf numbers) ≡ choice → InRange (cornersOf numbers) → 20 ≤ length room
-          → latExtent (extremesOf (cornersOf numbers)) ≤ degree → lonExtent (extremesOf (cornersOf numbers)) ≤ degree
-          → number ≤ 1048575 → noCell choice ≡ false → spanAbove (extremesOf (cornersOf numbers)) number choice ≡ false
+      at : (choice : Choice) → choose (cornersOf numbers) ≡ choice → Entered room (cornersOf numbers) number
+          → noCell choice ≡ false → spanAbove (extremesOf (cornersOf numbers)) number choice ≡ false
           → UnitCoded room numbers kind number
-      at (At c) chosen range long lat lon unit some spans =
-          let is = choose-chosen (cornersOf numbers) range chosen in
-          let passing : Passing (cornersOf numbers) number c = record {
-            cell = is .cell;
-            within = said-true (inside (cornersOf numbers) c) (is .within);
-            range = range;
-            lat = lat;
-            lon = lon;
-            unit = unit;
-            spans = spans;
-          } in
-          record {
-            cell = c;
-            chosen = chosen;
-            passing = passing;
-            written =
-                ap₂ (λ (said : Said) (choice : Choice). outcome said (codeAt (extremesOf (cornersOf numbers)) number choice) room) e chosen
-                ∙ sym (good-writing room (unitFields (cornersOf numbers) number c) long (fields-good passing));
-          }
-      at Nowhere chosen range long lat lon unit some spans = absurd (true≢false some)
+      at (At c) chosen h some spans = record {
+        cell = c;
+        chosen = chosen;
+        passing = passing h chosen spans;
+        written =
+            ap₂ (λ (said : Said) (choice : Choice). outcome said (codeAt (extremesOf (cornersOf numbers)) number choice) room) e chosen
+            ∙ sym (good-writing room (unitFields (cornersOf numbers) number c) (h .long) (fields-good (passing h chosen spans)));
+      }
+      at Nowhere chosen h some spans = absurd (true≢false some)
 
   -- Bytes 0 to 19 of the room then tell the fields of the unit
   pub reading-coded : (e : coding room numbers kind number .said ≡ accepted)

@@ -1,33 +1,29 @@
 -- The frame makes coding whole: where one of checks 1 to 6 refuses, coding says what it says and leaves the room; else coding is its end
 -- around the chosen cell. Assumes nothing.
 use Prim.Native.Nat.{ℕ, zero, suc, _≤_}
-use native.Mathlib.Omega.{arith}
 use mathlib.Core.Path.{_≡_, refl, ap, sym, _∙_}
-use mathlib.Core.Bool.{Bool, true, false, cond, _||_, true≢false}
+use mathlib.Core.Bool.{Bool, true, false, cond, true≢false}
 use mathlib.Core.List.{List, [], _∷_}
-use lib.Dec.{eqb, ltb}
 use lib.ListN.{length, take, drop}
-use borrow.Author.Tests.{ltb-false, ne-eqb, le-ltb}
+use borrow.Author.Tests.{ne-eqb, le-ltb}
 use Rattle.replies.specs.Replies.{Said, refused, accepted, Check, check, run, Outcome, outcome}
-use Rattle.replies.specs.Tests.{neither, none-of, Passed, passed}
+use Rattle.replies.specs.Tests.{none-of, Passed, passed}
 use Rattle.ground.specs.declared.Point.{Point}
 use Rattle.ground.specs.declared.Rectangle.{Rectangle}
 use Rattle.ground.specs.declared.Cell.{Cell}
-use Rattle.ground.specs.Levels.{degree}
 use Rattle.ground.specs.CellTest.{is-cell}
 use Rattle.code.specs.declared.Fields.{Fields}
 use Rattle.code.specs.Code.{writing, codeOf}
 use Rattle.code.specs.Writing.{Good, good-writing, zero-writing, refused-writing}
-use Rattle.boundary.specs.Boundary.{inside}
 use Rattle.boundary.specs.Corners.{cornersOf}
 use Rattle.unit.specs.declared.Kind.{Kind}
 use Rattle.unit.specs.declared.Choice.{Choice}
 use Rattle.unit.specs.declared.Choice.the-variants.{At, Nowhere}
-use Rattle.unit.specs.Extents.{extremesOf, latExtent, lonExtent}
-use Rattle.unit.specs.Chosen.{Chosen, choose}
+use Rattle.unit.specs.Extents.{extremesOf}
+use Rattle.unit.specs.Chosen.{choose}
 use Rattle.unit.specs.Unit.{fieldsOf, noCell, above31, spanAbove, codeAt, cornerChecks, codeChecks, coding}
-use Rattle.unit.specs.Choosing.{InRange, in-range, choose-chosen}
-use Rattle.unit.specs.Cover.{Passing, fields-good, number-most, said-true}
+use Rattle.unit.specs.Choosing.{choose-chosen}
+use Rattle.unit.specs.Cover.{fields-good, Entered, entered, passing}
 use Rattle.unit.specs.Frame.{ending, firstChecks, finishing}
 use Rattle.unit.specs.Ending.{finish-cell, finish-nowhere}
 
@@ -83,37 +79,19 @@ module _ (room numbers : List ℕ) (kind : Kind) (number : ℕ) where
   unfolding coding firstChecks cornerChecks
   framed e =
       let corners : List Point = cornersOf numbers in
-      let r : Rectangle = extremesOf corners in
       let p = passed (take 6 (codeChecks room numbers kind number)) tt e in
-      let q = p .1 .1 .1 in
-      let extents = neither (ltb 7372800 (latExtent r)) (ltb 7372800 (lonExtent r)) (q .1 .0) in
-      ap (λ (s : Said). outcome s (codeAt r number (choose corners)) room) (other-rows 6 (codeChecks room numbers kind number) p)
-      ∙ at (choose corners) refl
-      (ltb-false (length room) 20 (p .0))
-      (in-range corners (q .0))
-      (ltb-false 7372800 (latExtent r) (extents .0))
-      (ltb-false 7372800 (lonExtent r) (extents .1))
-      (number-most kind number (q .1 .1 .0))
+      ap (λ (s : Said). outcome s (codeAt (extremesOf corners) number (choose corners)) room)
+      (other-rows 6 (codeChecks room numbers kind number) p)
+      ∙ at (choose corners) refl (entered room numbers kind number p)
     where
-      at : (choice : Choice) → choose (cornersOf numbers) ≡ choice → 20 ≤ length room → InRange (cornersOf numbers)
-          → latExtent (extremesOf (cornersOf numbers)) ≤ degree → lonExtent (extremesOf (cornersOf numbers)) ≤ degree
-          → number ≤ 1048575
+      at : (choice : Choice) → choose (cornersOf numbers) ≡ choice → Entered room (cornersOf numbers) number
           → outcome
           (run (check 7 (noCell choice) ∷ check 8 (spanAbove (extremesOf (cornersOf numbers)) number choice) ∷ []))
           (codeAt (extremesOf (cornersOf numbers)) number choice)
           room
           ≡ finishing room (extremesOf (cornersOf numbers)) number choice
-      at (At c) chosen long range lat lon unit =
-          let is : Chosen (cornersOf numbers) c = choose-chosen (cornersOf numbers) range chosen in
-          let f : Fields = fieldsOf (extremesOf (cornersOf numbers)) number c in
-          let so : above31 f ≡ false → Good f = λ spans. fields-good (record {
-            cell = is .cell;
-            within = said-true (inside (cornersOf numbers) c) (is .within);
-            range = range;
-            lat = lat;
-            lon = lon;
-            unit = unit;
-            spans = spans;
-          }) in
-          spans-end room f long so ∙ finish-cell room (extremesOf (cornersOf numbers)) number c (is-cell c (is .cell))
-      at Nowhere chosen long range lat lon unit = finish-nowhere room (extremesOf (cornersOf numbers)) number
+      at (At c) chosen h =
+          let r : Rectangle = extremesOf (cornersOf numbers) in
+          spans-end room (fieldsOf r number c) (h .long) (λ spans. fields-good (passing h chosen spans))
+          ∙ finish-cell room r number c (is-cell c (choose-chosen (cornersOf numbers) (h .range) chosen .cell))
+      at Nowhere chosen h = finish-nowhere room (extremesOf (cornersOf numbers)) number
