@@ -1,6 +1,6 @@
 -- The boundary and the cell inside (document 01, "The cell inside"). Assumes nothing.
 use Prim.Native.Nat.{ℕ, suc, _+_, _*_, _%_}
-use mathlib.Core.Bool.{Bool, true, false, cond, not, _&&_, _||_}
+use mathlib.Core.Bool.{Bool, true, cond, not, _&&_, _||_}
 use mathlib.Core.List.{List, [], _∷_}
 use lib.Dec.{eqb, leb, ltb}
 use Rattle.ground.specs.declared.Point.{Point}

@@ -1,9 +1,8 @@
 -- The ground's five changes (the mission's demand 3): starting at another corner, turning the direction, repeating a corner beside itself,
 -- setting a corner exactly on an edge, and undoing any of these. A cell is inside for all lists of corners of one ground. Assumes nothing.
-use Prim.Native.Nat.{ℕ, _+_, _*_, _/_, _≤_, _<_, min}
-use native.Mathlib.Omega.{arith}
+use Prim.Native.Nat.{_+_, _≤_}
 use mathlib.Core.Path.{_≡_, refl, ap, ap₂, _∙_, sym}
-use mathlib.Core.Bool.{Bool, true, false, cond, not, _&&_, _||_, and-assoc, and-comm}
+use mathlib.Core.Bool.{Bool, true, false, not, _&&_, _||_, and-assoc, and-comm}
 use mathlib.Core.List.{List, [], _∷_, _++_, reverse, append-nil, append-assoc}
 use lib.Dec.{leb}
 use Rattle.ground.specs.declared.Point.{Point}

@@ -1,5 +1,5 @@
 -- The laws of reading: what twenty letters are, and which fields can be read. Assumes nothing.
-use Prim.Native.Nat.{ℕ, _+_, _-_, _*_, _/_, _%_, _^_, _≤_, _<_}
+use Prim.Native.Nat.{ℕ, _+_, _-_, _*_, _%_, _^_, _≤_, _<_}
 use native.Mathlib.Nat.{mul-le-mul}
 use native.Mathlib.Omega.{arith}
 use mathlib.Core.Path.{_≡_, refl, ap, _∙_, sym, subst}
@@ -16,7 +16,6 @@ use Rattle.ground.specs.Sizes.{size-most}
 use Rattle.letters.specs.Alphabet.{firstOther}
 use Rattle.letters.specs.Letters.{letters, numberIn}
 use Rattle.letters.specs.Words.{word-first, first-word, word-take, word-drop, word-value, word-number}
-use Rattle.code.specs.declared.Fields.{Fields}
 use Rattle.code.specs.Location.{degreesIn, hemisphereIn, angleIn}
 use Rattle.code.specs.Inner.{TwentyLetters, Readable}
 use Rattle.code.specs.Code.{

@@ -2,42 +2,23 @@
 use Prim.Native.Nat.{ℕ, zero, suc, _+_, _-_, _*_, _/_, _%_, _^_, _≤_, _<_}
 use native.Mathlib.Omega.{arith}
 use mathlib.Core.Path.{_≡_, refl, ap, ap₂, _∙_, sym, subst}
-use mathlib.Core.Bool.{Bool, true, false, not, cond, _||_}
-use mathlib.Core.List.{List, [], _∷_, _++_, map, map-append}
+use mathlib.Core.Bool.{false, _||_}
+use mathlib.Core.List.{List, _∷_, _++_, map, map-append}
 use lib.Dec.{eqb, ltb, lit<}
-use lib.ListN.{length, getD, take, drop, length-map, length-append, length-take, length-drop, take-append-drop}
+use lib.ListN.{length, getD, take, drop, take-append-drop}
 use lib.Seq.{take-at, drop-cons}
-use borrow.Author.Tests.{eq-eqb, ne-eqb, lt-ltb, le-ltb, lt-leb, ltb-false, eqb-true, eqb-false, not-false}
+use borrow.Author.Tests.{ne-eqb, le-ltb, ltb-false, eqb-false}
 use Rattle.replies.specs.Replies.{accepted, Outcome, outcome}
 use Rattle.replies.specs.Tests.{neither, none-of}
-use Rattle.ground.specs.declared.Point.{Point}
 use Rattle.ground.specs.Levels.{degree, minute, second}
-use Rattle.letters.specs.Alphabet.{valueIn, letterIn, firstOther, found-back}
-use Rattle.letters.specs.Digits.{Digits, none, more, digits, digits-are, digits-append, digits-length, digits-value}
-use Rattle.letters.specs.Letters.{letters, numberIn, spelledIn}
-use Rattle.letters.specs.Words.{Word, letters-distinct, word-first, first-word, word-back, word-digits, word-take, word-drop, word-values, digits-word, number-spelled}
+use Rattle.letters.specs.Alphabet.{valueIn, letterIn, found-back}
+use Rattle.letters.specs.Digits.{Digits, more, digits, digits-are, digits-append}
+use Rattle.letters.specs.Letters.{letters, numberIn}
+use Rattle.letters.specs.Words.{letters-distinct, word-back, word-take, word-drop, word-values, digits-word, number-spelled}
 use Rattle.code.specs.declared.Fields.{Fields}
 use Rattle.code.specs.Location.{bitsOf, angleIn, degrees, minutes, seconds, degreesIn, minutesIn, secondsIn, sixtyFourthsIn, hemisphereIn, paired, formers, latters, locationOf}
 use Rattle.code.specs.Bits.{paired-below, formers-paired, latters-paired, paired-back, bits-tell, bits-back, angle-back, minutes-most, seconds-most}
-use Rattle.code.specs.Code.{
-  valuesOf,
-  codeOf,
-  writing,
-  outside,
-  past59,
-  shortSpan,
-  locationIn,
-  latIn,
-  lonIn,
-  valueAt,
-  fieldsFrom,
-  fieldsIn,
-  letterChecks,
-  readChecks,
-  reading,
-  Told,
-  tellsOf,
-}
+use Rattle.code.specs.Code.{valuesOf, codeOf, writing, outside, past59, shortSpan, locationIn, latIn, lonIn, valueAt, fieldsFrom, fieldsIn, reading, Told, tellsOf}
 use Rattle.code.specs.Inner.{TwentyLetters}
 use Rattle.code.specs.Writing.{Angle, Good, within, good-tail, accepted-writing, good-writing}
 use Rattle.code.specs.Reading.{Accepts, eleven, location-below, four, unit-below, letter-most, reading-accepted, accepted-reading}

@@ -1,5 +1,5 @@
 -- The laws of writing: what accepted fields are, and the code as two numbers spelled. Assumes nothing.
-use Prim.Native.Nat.{ℕ, _+_, _*_, _^_, _≤_, _<_, _%_}
+use Prim.Native.Nat.{ℕ, _+_, _≤_, _<_, _%_}
 use native.Mathlib.Omega.{arith}
 use mathlib.Core.Path.{_≡_, ap, ap₂, _∙_, sym}
 use mathlib.Core.Bool.{false, not, _||_}
@@ -10,7 +10,6 @@ use lib.Seq.{length-take-le, take-at, drop-at, drop-drop}
 use borrow.Author.Tests.{ltb-false, leb-false, eqb-true, not-false, eq-eqb, le-ltb, lt-leb}
 use Rattle.replies.specs.Replies.{Said, accepted}
 use Rattle.replies.specs.Tests.{neither, none-of, passed}
-use Rattle.ground.specs.declared.Point.{Point}
 use Rattle.ground.specs.Levels.{latEnd, lonEnd}
 use Rattle.letters.specs.Alphabet.{letterIn}
 use Rattle.letters.specs.Digits.{digits, valueFrom, none, more, digits-are, digits-value, value-digits}

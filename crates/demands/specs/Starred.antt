@@ -8,7 +8,6 @@ use lib.Dec.{T, eqb}
 use lib.ListN.{replicate}
 use Rattle.replies.specs.Replies.{Said}
 use Rattle.replies.specs.Texts.{bytes}
-use Rattle.ground.specs.declared.Rectangle.{Rectangle}
 use Rattle.ground.specs.Levels.{sizeOf}
 use Rattle.ground.specs.Cells.{afresh, lowSide, highSide, sidesOf, centreOf, locationCell}
 use Rattle.letters.specs.Letters.{letters, spelledIn}

@@ -1,6 +1,5 @@
 // A cell's sides on the ground, cuts included, and the centre of a rectangle.
 ghost use mathlib.Core.Path.{_≡_};
-ghost use mathlib.Core.Bool.{true};
 ghost use Prim.Native.Nat.{_≤_, _<_};
 ghost use Rattle.ground.specs.Cells.{afresh as Cells·afresh, lowSide, highSide, centreOf, halfway as Cells·halfway};
 ghost use Rattle.ground.specs.CellTest.{isSide, sidesFound};

@@ -2,13 +2,12 @@
 -- Assumes nothing.
 use Prim.Native.Nat.{ℕ, zero, suc, _+_, _^_, _<_, _≤_}
 use native.Mathlib.Omega.{arith}
-use mathlib.Core.Path.{_≡_, refl, ap, ap₂, _∙_, sym, subst}
+use mathlib.Core.Path.{_≡_, refl, ap, ap₂, _∙_, subst}
 use mathlib.Core.Bool.{Bool, true, false, cond, not}
 use mathlib.Core.List.{List, [], _∷_, map}
 use lib.Dec.{T}
 use lib.ListN.{length, getD, take, drop, length-map}
 use borrow.Author.Tests.{ltb-true, lt-ltb}
-use Rattle.replies.specs.Places.{first-most}
 use Rattle.letters.specs.Alphabet.{valueIn, letterIn, isLetter, firstOther, distinct, found-back, spelled-back}
 use Rattle.letters.specs.Digits.{Digits, none, more, digits, valueOf, digits-are, value-most, value-digits, digits-value}
 use Rattle.letters.specs.Letters.{letters, numberIn, spelledIn}

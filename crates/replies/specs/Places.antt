@@ -1,6 +1,6 @@
 -- Places (document 01, "Replies": "first such corner", "first such byte"): the first element of a list that passes a test, and its
 -- laws. Assumes nothing.
-use Prim.Native.Nat.{ℕ, zero, suc, _+_, _<_, _≤_}
+use Prim.Native.Nat.{ℕ, suc, _+_, _<_, _≤_}
 use native.Mathlib.Numerals.{add-one}
 use native.Mathlib.Omega.{arith}
 use mathlib.Core.Path.{_≡_}

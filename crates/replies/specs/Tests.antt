@@ -7,7 +7,7 @@ use mathlib.Core.List.{List, [], _∷_}
 use lib.Dec.{T, ltb, ltb→lt}
 use lib.ListN.{length, getD, drop}
 use lib.Seq.{drop-cons}
-use Rattle.replies.specs.Replies.{Said, refused, Check, check, run}
+use Rattle.replies.specs.Replies.{refused, Check, check, run}
 
 -- Where no alternative holds, neither does
 pub neither : (a b : Bool) → (a || b) ≡ false → (a ≡ false) × (b ≡ false)

@@ -1,17 +1,16 @@
 -- The rectangle read back covers the unit (document 01, "Four spans" and "Reading back"): the fields of a cell that is inside are good,
 -- each side lies at or beyond the unit's own extreme, by less than s, and so it is with the bytes that coding leaves. Assumes nothing.
-use Prim.Native.Nat.{ℕ, zero, suc, _+_, _-_, _*_, _/_, _≤_, _<_, min, max}
+use Prim.Native.Nat.{ℕ, zero, suc, _+_, _-_, _*_, _/_, _≤_, _<_, min}
 use native.Mathlib.Nat.{div-mul-le-self, div-lt-iff-lt-mul, lt-div-mul-add}
 use native.Mathlib.Omega.{arith}
 use mathlib.Core.Path.{_≡_, refl, ap, ap₂, sym, subst, _∙_}
 use mathlib.Core.Logic.{_↔_}
-use mathlib.Core.Bool.{Bool, true, false, cond, _||_, true≢false}
-use mathlib.Core.List.{List, [], _∷_, map}
+use mathlib.Core.Bool.{Bool, true, false, _||_, true≢false}
+use mathlib.Core.List.{List, [], _∷_}
 use lib.Dec.{T, eqb, ltb}
 use lib.ListN.{length, getD, take}
 use borrow.Author.Tests.{ltb-false, eqb-true, not-false}
 use Rattle.replies.specs.Replies.{Said, accepted, Check, Outcome, outcome}
-use Rattle.replies.specs.Places.{firstPlace}
 use Rattle.replies.specs.Tests.{neither, Passed, passed}
 use Rattle.ground.specs.declared.Point.{Point}
 use Rattle.ground.specs.declared.Rectangle.{Rectangle}
@@ -31,9 +30,9 @@ use Rattle.unit.specs.declared.Kind.{Kind}
 use Rattle.unit.specs.declared.Kind.the-variants.{Building, Other}
 use Rattle.unit.specs.declared.Choice.{Choice}
 use Rattle.unit.specs.declared.Choice.the-variants.{At, Nowhere}
-use Rattle.unit.specs.Extents.{greatestFrom, greatest, lats, lons, extremesOf, latExtent, lonExtent, spanOf}
+use Rattle.unit.specs.Extents.{lats, lons, extremesOf, latExtent, lonExtent, spanOf}
 use Rattle.unit.specs.Chosen.{choose}
-use Rattle.unit.specs.Unit.{scaleOf, distance, spanCells, fieldsOf, aboveRange, badNumber, noCell, above31, spanAbove, codeAt, cornerChecks, codeChecks, coding}
+use Rattle.unit.specs.Unit.{scaleOf, distance, spanCells, fieldsOf, badNumber, noCell, above31, spanAbove, codeAt, cornerChecks, codeChecks, coding}
 use Rattle.unit.specs.Scale.{scale-size, scale-written}
 use Rattle.unit.specs.Choosing.{greatest-most, InRange, in-range, choose-chosen}
 use Rattle.unit.specs.InExtents.{least-each, greatest-each, reference-lat, reference-lon, fields-least}

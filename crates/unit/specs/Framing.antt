@@ -6,11 +6,10 @@ use mathlib.Core.Bool.{Bool, true, false, cond, true≢false}
 use mathlib.Core.List.{List, [], _∷_}
 use lib.ListN.{length, take, drop}
 use borrow.Author.Tests.{ne-eqb, le-ltb}
-use Rattle.replies.specs.Replies.{Said, refused, accepted, Check, check, run, Outcome, outcome}
+use Rattle.replies.specs.Replies.{Said, refused, Check, check, run, outcome}
 use Rattle.replies.specs.Tests.{none-of, Passed, passed}
 use Rattle.ground.specs.declared.Point.{Point}
 use Rattle.ground.specs.declared.Rectangle.{Rectangle}
-use Rattle.ground.specs.declared.Cell.{Cell}
 use Rattle.ground.specs.CellTest.{is-cell}
 use Rattle.code.specs.declared.Fields.{Fields}
 use Rattle.code.specs.Code.{writing, codeOf}

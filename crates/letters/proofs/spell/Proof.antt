@@ -1,8 +1,7 @@
 -- `letters::spell` meets its contract: the letters from place `i` on stand, and `rest` is still to be spelled before them.
 -- Assumes nothing.
-use native.Mathlib.Omega.{arith}
 use borrow.Author.Needs.{needs}
-use lib.ListN.{length, length-set}
+use lib.ListN.{length}
 use Rattle.letters.specs.Letters.{letters, Spelling, spelling-begin, spelling-again, spelling-end}
 use Rattle.letters.proofs.spell.Statement.{statement}
 use Rattle.letters.proofs.spell.Tie as tie

@@ -7,9 +7,6 @@ use Rattle.letters.specs.Alphabet.{value-most}
 use Rattle.letters.specs.Letters.{letters}
 use Rattle.letters.proofs.value.Statement.{statement}
 use Rattle.letters.proofs.value.Tie as tie
-use Rattle.letters.proofs.value.Reads as reads
-use Rattle.letters.proofs.value.Lts as lts
-use Rattle.letters.proofs.value_in.Reads as value-in-reads
 
 slice-aggregate-value-in : tie.Need-slice-aggregate-value-in
 slice-aggregate-value-in c = search needs

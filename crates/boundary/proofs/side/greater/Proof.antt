@@ -2,7 +2,7 @@
 use Prim.Native.Nat.{_+_}
 use mathlib.Core.Path.{sym}
 use native.Mathlib.Omega.{arith}
-use borrow.Author.Tests.{lt-ltb, le-ltb}
+use borrow.Author.Tests.{le-ltb}
 use Rattle.boundary.specs.Signs.{ltb-same}
 use Rattle.boundary.proofs.side.greater.Statement.{statement}
 use Rattle.boundary.proofs.side.greater.Tie as tie

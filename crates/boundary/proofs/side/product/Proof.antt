@@ -1,5 +1,4 @@
 -- `boundary::side::product` meets its contract: the law of signed products. Assumes nothing.
-use mathlib.Core.Path.{ap₂}
 use native.Mathlib.Omega.{arith}
 use Rattle.boundary.specs.Signs.{product-signed, distances-fit}
 use borrow.Author.Needs.{needs}

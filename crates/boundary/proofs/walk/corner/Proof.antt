@@ -1,6 +1,5 @@
 -- `boundary::walk::corner` meets its contract: past the list's end stands 0. Assumes nothing.
 use Prim.Native.Nat.{_*_, _+_}
-use mathlib.Core.Path.{sym}
 use native.Mathlib.Omega.{arith}
 use lib.ListN.{List·getD-eq-default}
 use borrow.Author.Needs.{needs}

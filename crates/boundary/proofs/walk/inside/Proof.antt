@@ -1,5 +1,5 @@
 -- `boundary::walk::inside` meets its contract: by the sides found, or none. Assumes nothing.
-use mathlib.Core.Path.{_≡_, ap, sym, _∙_}
+use mathlib.Core.Path.{ap, sym, _∙_}
 use mathlib.Core.Bool.{Bool, _&&_}
 use Rattle.ground.specs.declared.Point.{Point}
 use Rattle.ground.specs.Cells.{centreOf}

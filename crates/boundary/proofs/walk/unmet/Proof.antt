@@ -1,9 +1,8 @@
 -- `boundary::walk::unmet` meets its contract: every edge behind the loop misses. Assumes nothing.
 use Prim.Native.Nat.{ℕ, _+_, _-_, _/_}
-use native.Mathlib.Omega.{arith}
-use mathlib.Core.Path.{_≡_, ap, sym, _∙_, subst}
-use mathlib.Core.Bool.{Bool, true, false, _&&_}
-use mathlib.Core.List.{List, []}
+use mathlib.Core.Path.{ap, sym, _∙_}
+use mathlib.Core.Bool.{true, _&&_}
+use mathlib.Core.List.{List}
 use borrow.Author.Needs.{needs}
 use borrow.Author.Tests.{not-true, not-false}
 use lib.ListN.{length}
@@ -11,7 +10,6 @@ use Rattle.ground.specs.declared.Point.{Point}
 use Rattle.boundary.specs.Boundary.{edgesOf, misses, unmet}
 use Rattle.boundary.specs.Corners.{cornersOf}
 use Rattle.boundary.specs.Boundary.{edge}
-use Rattle.boundary.specs.Walk.{way}
 use Rattle.boundary.specs.Changes.{and-sums}
 use Rattle.boundary.specs.Loops.{Walked, walk-begin, walk-again, walk-end, walk-as, no-corners, unmet-way}
 use Rattle.boundary.proofs.walk.unmet.Statement.{statement}

@@ -1,5 +1,4 @@
 -- `code::location::angle_in` meets its contract: its parts are those of the definition. Assumes nothing.
-use mathlib.Core.Path.{refl}
 use native.Mathlib.Omega.{arith}
 use Rattle.code.specs.Location.{bitsOf, angleIn}
 use borrow.Author.Needs.{needs}

@@ -2,7 +2,7 @@
 use Prim.Native.Nat.{ℕ, _^_, _<_}
 use mathlib.Core.Path.{sym, subst}
 use native.Mathlib.Omega.{arith}
-use Rattle.code.specs.Location.{bitsOf, paired, locationOf}
+use Rattle.code.specs.Location.{locationOf}
 use Rattle.code.specs.Bits.{paired-below}
 use borrow.Author.Needs.{needs}
 use Rattle.code.proofs.location.location_of.Statement.{statement}

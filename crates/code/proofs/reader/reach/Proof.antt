@@ -1,8 +1,7 @@
 -- `code::reader::reach` meets its contract: thirty degrees fit. Assumes nothing.
 use Prim.Native.Nat.{ℕ, _*_, _-_, _≤_}
-use mathlib.Core.Path.{_≡_, ap, sym, subst}
+use mathlib.Core.Path.{ap, sym, subst}
 use native.Mathlib.Omega.{arith}
-use Rattle.ground.specs.Levels.{sizeOf}
 use Rattle.code.specs.Reading.{reach-most}
 use borrow.Author.Needs.{needs}
 use Rattle.code.proofs.reader.reach.Statement.{statement}

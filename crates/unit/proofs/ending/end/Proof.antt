@@ -1,5 +1,5 @@
 -- `unit::ending::end` meets its contract: acceptance where writing says 0, else 8. Assumes nothing.
-use mathlib.Core.Path.{_≡_, sym, _∙_}
+use mathlib.Core.Path.{sym, _∙_}
 use Rattle.unit.specs.Ending.{ends, ends-not}
 use borrow.Author.Needs.{needs}
 use Rattle.unit.proofs.ending.end.Statement.{statement}

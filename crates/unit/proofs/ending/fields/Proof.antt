@@ -1,6 +1,6 @@
 -- `unit::ending::fields` meets its contract: each field from its part. Assumes nothing.
 use Prim.Native.Nat.{ℕ, _≤_}
-use mathlib.Core.Path.{_≡_, ap, _∙_}
+use mathlib.Core.Path.{ap, _∙_}
 use Rattle.unit.specs.Unit.{spanCells}
 use Rattle.unit.specs.Ending.{cells-size, fields-made}
 use borrow.Author.Needs.{needs}

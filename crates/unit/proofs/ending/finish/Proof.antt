@@ -1,5 +1,5 @@
 -- `unit::ending::finish` meets its contract: around a cell, or none. Assumes nothing.
-use mathlib.Core.Path.{_≡_, ap, sym, _∙_}
+use mathlib.Core.Path.{ap, sym, _∙_}
 use Rattle.unit.specs.Frame.{finishing}
 use Rattle.unit.specs.Ending.{finish-nowhere}
 use borrow.Author.Needs.{needs}

@@ -1,5 +1,5 @@
 -- `unit::ending::reference` meets its contract: the cell's own corner at level 27, else its centre less 32. Assumes nothing.
-use mathlib.Core.Path.{_≡_, ap, ap₂, sym, _∙_}
+use mathlib.Core.Path.{ap, ap₂, _∙_}
 use borrow.Author.Tests.{ne-eqb}
 use Prim.Native.Nat.{ℕ}
 use Rattle.ground.specs.declared.Point.{Point}
