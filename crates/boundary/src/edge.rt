@@ -3,10 +3,9 @@
 ghost use mathlib.Core.Path.{_≡_};
 ghost use mathlib.Core.Bool.{_&&_};
 ghost use lib.Dec.{leb};
-ghost use Rattle.boundary.specs.Boundary.{left as Boundary·left, beyond as Boundary·beyond, allLeft, misses as Boundary·misses, crossesEast};
+ghost use Rattle.boundary.specs.Boundary.{edge, left as Boundary·left, beyond as Boundary·beyond, allLeft, misses as Boundary·misses, crossesEast};
 ghost use Rattle.boundary.specs.Extreme.{extremeLat, extremeLon};
 ghost use Rattle.boundary.specs.Missing.{Ordered};
-ghost use Rattle.boundary.specs.Boundary.{edge};
 use crate::left;
 use ground::Lat;
 use ground::Lon;
