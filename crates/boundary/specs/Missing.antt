@@ -9,6 +9,7 @@ use lib.Dec.{leb}
 use borrow.Author.Tests.{leb-true, le-leb}
 use Rattle.ground.specs.declared.Lat.{Lat}
 use Rattle.ground.specs.declared.Lon.{Lon}
+use Rattle.replies.specs.Tests.{either-left}
 use Rattle.ground.specs.declared.Point.{Point}
 use Rattle.ground.specs.declared.Rectangle.{Rectangle}
 use Rattle.boundary.specs.Boundary.{Edge, leftSum, rightSum, leftOrOn, allLeft, beyond, misses, unmet}
@@ -62,9 +63,6 @@ both false b e = absurd (false≢true e)
 pub either : (a b : Bool) → (a || b) ≡ true → (a ≡ true) ⊎ (b ≡ true)
 either true b e = inl refl
 either false b e = inr e
-
-pub or-left : {a : Bool} (b : Bool) → a ≡ true → (a || b) ≡ true
-or-left b p = ap (λ (t : Bool). t || b) p
 
 pub or-right : (a : Bool) {b : Bool} → b ≡ true → (a || b) ≡ true
 or-right true q = refl
@@ -182,11 +180,11 @@ module _ (e : Edge) (r : Rectangle) where
   -- and the other way, where the sides are in order
   pub misses-so : Ordered r → Missed e r → misses e r ≡ true
   unfolding misses
-  misses-so o (west h k) = or-left backward (or-left forward (or-left northward (or-left southward (or-left eastward (two-back h k)))))
-  misses-so o (east h k) = or-left backward (or-left forward (or-left northward (or-left southward (or-right westward (two-back h k)))))
-  misses-so o (south h k) = or-left backward (or-left forward (or-left northward (or-right (westward || eastward) (two-back h k))))
-  misses-so o (north h k) = or-left backward (or-left forward (or-right (westward || eastward || southward) (two-back h k)))
-  misses-so o (onLeft l) = or-left backward (or-right (beyond e r) (left-all (e .start) (e .end) o l))
+  misses-so o (west h k) = either-left backward (either-left forward (either-left northward (either-left southward (either-left eastward (two-back h k)))))
+  misses-so o (east h k) = either-left backward (either-left forward (either-left northward (either-left southward (or-right westward (two-back h k)))))
+  misses-so o (south h k) = either-left backward (either-left forward (either-left northward (or-right (westward || eastward) (two-back h k))))
+  misses-so o (north h k) = either-left backward (either-left forward (or-right (westward || eastward || southward) (two-back h k)))
+  misses-so o (onLeft l) = either-left backward (or-right (beyond e r) (left-all (e .start) (e .end) o l))
   misses-so o (onRight l) = or-right (beyond e r || forward) (left-all (e .end) (e .start) o l)
 
 module _ {r s : Rectangle} (o : Ordered r) (h : Within r s) where

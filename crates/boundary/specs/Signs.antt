@@ -1,5 +1,5 @@
 -- Numbers with a sign, as the code has them: what stands above 0 and what below. Assumes nothing.
-use Prim.Native.Nat.{ℕ, _+_, _-_, _*_, _≤_, _<_}
+use Prim.Native.Nat.{ℕ, _+_, _*_, _≤_, _<_}
 use native.Mathlib.Nat.{mul-le-mul}
 use native.Mathlib.Omega.{arith}
 use mathlib.Core.Path.{_≡_, refl}
@@ -7,6 +7,7 @@ use mathlib.Core.Bool.{Bool, true, false, cond, not, Bool·beq}
 use lib.Dec.{ltb}
 use borrow.Author.Tests.{ltb-true, ltb-false}
 use Rattle.ground.specs.declared.Point.{Point}
+use Rattle.ground.specs.Levels.{distance}
 use Rattle.boundary.specs.declared.side.Signed.{Signed}
 use Rattle.boundary.specs.Boundary.{leftSum, rightSum, left}
 
@@ -16,10 +17,6 @@ plus x = cond (x .below) 0 (x .size)
 
 abbrev pub minus : Signed → ℕ
 minus x = cond (x .below) (x .size) 0
-
--- How far two numbers are apart
-abbrev pub distance : ℕ → ℕ → ℕ
-distance a b = (a - b) + (b - a)
 
 -- Two tests that hold together are the same
 pub ltb-same : (a b c d : ℕ) → (a < b → c < d) → (c < d → a < b) → ltb a b ≡ ltb c d
@@ -43,7 +40,7 @@ product-at a b c d m x y e true false p q = rw (p, q, e) (omega arith)
 product-at a b c d m x y e false true p q = rw (p, q, e) (omega arith)
 product-at a b c d m x y e false false p q = rw (p, q, e) (omega arith)
 
--- How far two numbers are apart leads from the smaller to the greater
+-- A distance leads from the smaller to the greater
 apart-at : (a b : ℕ) → cond (ltb a b) (b ≡ a + distance a b) (a ≡ b + distance a b)
 apart-at a b = at (ltb a b) refl
   where

@@ -3,7 +3,7 @@ ghost use mathlib.Core.Path.{_≡_};
 ghost use Prim.Native.Nat.{_+_, _*_};
 ghost use lib.Dec.{ltb};
 ghost use Rattle.boundary.specs.Boundary.{left as Boundary·left};
-ghost use Rattle.boundary.specs.Signs.{plus, minus, distance};
+ghost use Rattle.boundary.specs.Signs.{plus, minus};
 use ground::Point;
 
 // A number with its sign: `size` above 0, or below it.
@@ -12,24 +12,13 @@ pub struct Signed {
     pub size: u64,
 }
 
-// How far two angles are apart.
-fn apart(a: u32, b: u32) -> u64
-    ensures { λ r. ⌜ r ≡ distance a b ⌝ }
-{
-    if a < b {
-        (b - a) as u64
-    } else {
-        (a - b) as u64
-    }
-}
-
 // (b - a) times (d - c), for all numbers: no product of two differences passes 64 bits.
 fn product(a: u32, b: u32, c: u32, d: u32) -> Signed
     ensures { λ r. ⌜ a * d + b * c + plus r ≡ a * c + b * d + minus r ⌝ }
 {
     Signed {
         below: (a < b) != (c < d),
-        size: apart(a, b) * apart(c, d),
+        size: ground::apart(a, b) as u64 * ground::apart(c, d) as u64,
     }
 }
 

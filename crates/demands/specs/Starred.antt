@@ -16,6 +16,8 @@ use Rattle.code.specs.Location.{bitsOf, angleIn, paired, latters, locationOf}
 use Rattle.code.specs.Code.{valuesOf, codeOf, rectangleOf, fieldsFrom, letterChecks, Told, reading}
 use Rattle.unit.specs.declared.Kind.{Kind}
 use Rattle.unit.specs.declared.Kind.the-variants.{Building, Other}
+use Rattle.unit.specs.declared.Choice.{Choice}
+use Rattle.unit.specs.declared.Choice.the-variants.{At, Nowhere}
 use Rattle.boundary.specs.Corners.{cornersOf}
 use Rattle.unit.specs.Extents.{extremesOf}
 use Rattle.unit.specs.Chosen.{choose}
@@ -25,6 +27,7 @@ use Rattle.unit.specs.Unit.{scaleOf, fieldsOf, cornerChecks, coding}
 pub data Case : Type 0 where
   codes : Kind → ℕ → List ℕ → String → Case
   refuses : Kind → ℕ → List ℕ → ℕ → Case
+  centres : List ℕ → ℕ → ℕ → ℕ → Case
   reads : String → ℕ → ℕ → ℕ → ℕ → Case
   refusesText : String → ℕ → ℕ → Case
   scales : ℕ → ℕ → Case
@@ -40,6 +43,8 @@ starred =
     ∷ reads "0W7ARCTDHYYRA99A0001" 857567200 857569376 294250464 294252640
     -- 3: 48 seconds are 98,304 u, 60 are 122,880
     ∷ codes Other 0 (98304 ∷ 98304 ∷ 98304 ∷ 122880 ∷ 122880 ∷ 122880 ∷ 122880 ∷ 98304 ∷ []) "000000XCYYYNEDDE0000"
+    -- its cut level 17 cell has its centre at 54 seconds, which are 110,592 u
+    ∷ centres (98304 ∷ 98304 ∷ 98304 ∷ 122880 ∷ 122880 ∷ 122880 ∷ 122880 ∷ 98304 ∷ []) 17 110592 110592
     -- 4
     ∷ codes Other 0 (0 ∷ 0 ∷ 0 ∷ 960 ∷ 32 ∷ 960 ∷ 32 ∷ 0 ∷ []) "00000000001UY1120000"
     -- 5
@@ -75,6 +80,12 @@ sides t west east south north =
     saying (t .said) 0 0 && eqb (t .rectangle .west .0) west && eqb (t .rectangle .east .0) east
     && eqb (t .rectangle .south .0) south && eqb (t .rectangle .north .0) north
 
+-- A chosen cell has a level, and its centre this latitude and longitude
+abbrev pub centred : Choice → ℕ → ℕ → ℕ → Bool
+centred Nowhere level lat lon = false
+centred (At c) level lat lon =
+    eqb (c .level) level && eqb (centreOf (sidesOf c) .lat .0) lat && eqb (centreOf (sidesOf c) .lon .0) lon
+
 -- Twenty bytes of room
 abbrev pub room : List ℕ
 room = replicate 20 46
@@ -95,6 +106,7 @@ holds (codes kind number corners code) =
     saying (coding room corners kind number .said) 0 0 && same (coding room corners kind number .room) (bytes code)
 holds (refuses kind number corners refusal) =
     saying (coding room corners kind number .said) refusal 0 && same (coding room corners kind number .room) room
+holds (centres corners level lat lon) = centred (choose (cornersOf corners)) level lat lon
 holds (reads code west east south north) = sides (reading (bytes code)) west east south north
 holds (refusesText text refusal place) = saying (reading (bytes text) .said) refusal place
 holds (scales span level) = eqb (scaleOf span) level

@@ -1,5 +1,5 @@
 -- Angles and levels (document 01, "Angles and grid"). Assumes nothing.
-use Prim.Native.Nat.{ℕ, _-_, _*_}
+use Prim.Native.Nat.{ℕ, _+_, _-_, _*_}
 use mathlib.Core.Bool.{cond}
 use mathlib.Core.List.{List, [], _∷_}
 use lib.Dec.{ltb}
@@ -30,6 +30,10 @@ latEnd = 90 * degree
 
 abbrev pub lonEnd : ℕ
 lonEnd = 180 * degree
+
+-- The distance of two angles of one direction
+abbrev pub distance : ℕ → ℕ → ℕ
+distance a b = (a - b) + (b - a)
 
 -- Nominal cell sizes in u: level 9, levels 10 to 15, 16 to 21, 22 to 27
 abbrev pub sizes : List ℕ

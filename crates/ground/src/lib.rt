@@ -5,7 +5,7 @@ pub use cells::Sides;
 pub use cells::centre;
 pub use cells::sides_found;
 ghost use mathlib.Core.Path.{_≡_};
-ghost use Rattle.ground.specs.Levels.{sizeOf};
+ghost use Rattle.ground.specs.Levels.{sizeOf, distance};
 
 // A latitude in u, north of the equator.
 pub struct Lat(pub u32);
@@ -32,6 +32,13 @@ pub struct Cell {
     pub level: u32,
     pub west: Lon,
     pub south: Lat,
+}
+
+// The distance of two angles of one direction.
+pub fn apart(a: u32, b: u32) -> u32
+    ensures { λ r. ⌜ r ≡ distance a b ⌝ }
+{
+    if a < b { b - a } else { a - b }
 }
 
 // The nominal sizes of levels 9 to 27, in u (annex D of TD/T 1082-2023's draft).

@@ -96,17 +96,17 @@ abbrev pub decimal : ℕ → List ℕ
 decimal n = spelling 20 n
 
 -- what is said of a line
-pub data Said : Type 0 where
-  coded : (text : List ℕ) → Said
-  refused : (number place : ℕ) → Said
+pub data Reply : Type 0 where
+  coded : (text : List ℕ) → Reply
+  refused : (number place : ℕ) → Reply
 
 -- the code, or `refused`, number and place, each after one space
-abbrev pub saying : Said → List ℕ
+abbrev pub saying : Reply → List ℕ
 saying (coded text) = text
 saying (refused number place) = bytes "refused " ++ decimal number ++ bytes " " ++ decimal place
 
 -- the reply to the line with a number
-unfoldable pub replyLine : ℕ → Said → List ℕ
+unfoldable pub replyLine : ℕ → Reply → List ℕ
 replyLine number said = decimal number ++ bytes " " ++ saying said ++ bytes "\n"
 
 -- ---- "Refused 10: more than 24,576 bytes before the line feed or the end of input. Refused 9: any other line not of this form,
@@ -117,19 +117,19 @@ abbrev pub longest : ℕ
 longest = 24576
 
 -- what is said of a form, where `coding` says it of a unit's kind, number and coordinates
-abbrev pub formSaid : (ℕ → ℕ → List ℕ → Said) → Form → Said
+abbrev pub formSaid : (ℕ → ℕ → List ℕ → Reply) → Form → Reply
 formSaid coding (unit kind number coordinates) = coding kind number coordinates
 formSaid coding notOfThisForm = refused 9 0
 
 -- what is said of a line
-unfoldable pub lineSaid : (ℕ → ℕ → List ℕ → Said) → List ℕ → Said
+unfoldable pub lineSaid : (ℕ → ℕ → List ℕ → Reply) → List ℕ → Reply
 lineSaid coding line = cond (ltb longest (length line)) (refused 10 0) (formSaid coding (form line))
 
 -- the replies to lines whose first has a number
-unfoldable pub replies : (ℕ → ℕ → List ℕ → Said) → ℕ → List (List ℕ) → List ℕ
+unfoldable pub replies : (ℕ → ℕ → List ℕ → Reply) → ℕ → List (List ℕ) → List ℕ
 replies coding number [] = []
 replies coding number (line ∷ lines) = replyLine number (lineSaid coding line) ++ replies coding (number + 1) lines
 
 -- the output for an input: lines are numbered from 1
-unfoldable pub outputOf : (ℕ → ℕ → List ℕ → Said) → List ℕ → List ℕ
+unfoldable pub outputOf : (ℕ → ℕ → List ℕ → Reply) → List ℕ → List ℕ
 outputOf coding input = replies coding 1 (linesOf input)

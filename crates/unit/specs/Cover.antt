@@ -15,7 +15,7 @@ use Rattle.replies.specs.Tests.{neither, Passed, passed}
 use Rattle.ground.specs.declared.Point.{Point}
 use Rattle.ground.specs.declared.Rectangle.{Rectangle}
 use Rattle.ground.specs.declared.Cell.{Cell}
-use Rattle.ground.specs.Levels.{degree, latEnd, lonEnd, sizeOf}
+use Rattle.ground.specs.Levels.{distance, degree, latEnd, lonEnd, sizeOf}
 use Rattle.ground.specs.Cells.{IsCell, locationCell, cornerOf}
 use Rattle.ground.specs.CellLaws.{Placed}
 use Rattle.code.specs.declared.Fields.{Fields}
@@ -32,7 +32,7 @@ use Rattle.unit.specs.declared.Choice.{Choice}
 use Rattle.unit.specs.declared.Choice.the-variants.{At, Nowhere}
 use Rattle.unit.specs.Extents.{lats, lons, extremesOf, latExtent, lonExtent, spanOf}
 use Rattle.unit.specs.Chosen.{choose}
-use Rattle.unit.specs.Unit.{scaleOf, distance, spanCells, fieldsOf, badNumber, noCell, above31, spanAbove, codeAt, cornerChecks, codeChecks, coding}
+use Rattle.unit.specs.Unit.{scaleOf, spanCells, fieldsOf, badNumber, noCell, above31, spanAbove, codeAt, cornerChecks, codeChecks, coding}
 use Rattle.unit.specs.Scale.{scale-size, scale-written}
 use Rattle.unit.specs.Choosing.{greatest-most, InRange, in-range, choose-chosen}
 use Rattle.unit.specs.InExtents.{least-each, greatest-each, reference-lat, reference-lon, fields-least}

@@ -11,7 +11,7 @@ use Rattle.replies.specs.Replies.{Outcome}
 use Rattle.ground.specs.declared.Point.{Point}
 use Rattle.ground.specs.declared.Rectangle.{Rectangle}
 use Rattle.ground.specs.declared.Cell.{Cell}
-use Rattle.ground.specs.Levels.{lat, lon, sizeOf}
+use Rattle.ground.specs.Levels.{distance, lat, lon, sizeOf}
 use Rattle.ground.specs.Cells.{sidesOf, centreOf, locationCell, cornerOf}
 use Rattle.ground.specs.CellTest.{isCell}
 use Rattle.code.specs.declared.Fields.{Fields}
@@ -20,7 +20,7 @@ use Rattle.code.specs.Code as code
 use Rattle.unit.specs.declared.Choice.the-variants.{At, Nowhere}
 use Rattle.unit.specs.declared.Coded.the-variants as coded
 use Rattle.unit.specs.Extents.{spanOf}
-use Rattle.unit.specs.Unit.{distance, scaleOf, spanCells, fieldsOf}
+use Rattle.unit.specs.Unit.{scaleOf, spanCells, fieldsOf}
 use Rattle.unit.specs.Scale.{scale-size}
 use Rattle.unit.specs.Frame.{leaves, ending, finishing}
 

@@ -9,7 +9,7 @@ use mathlib.Core.Bool.{true, false, true≢false}
 use mathlib.Core.List.{List, [], _∷_, map}
 use Rattle.ground.specs.declared.Point.{Point}
 use Rattle.ground.specs.declared.Cell.{Cell}
-use Rattle.ground.specs.Levels.{lat, lon, sizeOf}
+use Rattle.ground.specs.Levels.{distance, lat, lon, sizeOf}
 use Rattle.ground.specs.Cells.{sidesOf, IsCell, locationCell, cornerOf}
 use Rattle.ground.specs.CellLaws.{Whole, sides-32, Placed, located}
 use Rattle.code.specs.declared.Fields.{Fields}
@@ -21,7 +21,7 @@ use Rattle.boundary.specs.Parity.{Lies}
 use Rattle.boundary.specs.Inner.{inside-point}
 use Rattle.boundary.specs.Apart.{west-apart, east-apart, south-apart, north-apart}
 use Rattle.unit.specs.Extents.{leastFrom, greatestFrom, least, greatest, extremesOf, spanOf}
-use Rattle.unit.specs.Unit.{scaleOf, distance, spanCells, fieldsOf}
+use Rattle.unit.specs.Unit.{scaleOf, spanCells, fieldsOf}
 use Rattle.unit.specs.Scale.{scale-size}
 
 -- The least of some angles is at most each

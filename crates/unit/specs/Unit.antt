@@ -10,7 +10,7 @@ use Rattle.replies.specs.Places.{firstPlace}
 use Rattle.ground.specs.declared.Point.{Point}
 use Rattle.ground.specs.declared.Rectangle.{Rectangle}
 use Rattle.ground.specs.declared.Cell.{Cell}
-use Rattle.ground.specs.Levels.{latEnd, lonEnd, sizeOf}
+use Rattle.ground.specs.Levels.{latEnd, lonEnd, distance, sizeOf}
 use Rattle.ground.specs.Cells.{locationCell, cornerOf}
 use Rattle.code.specs.declared.Fields.{Fields}
 use Rattle.code.specs.Code.{outside, codeOf}
@@ -32,9 +32,6 @@ unfoldable pub scaleOf : ℕ → ℕ
 scaleOf span = scaleFrom span 18
 
 -- A distance, divided by s and rounded up, plus 1
-abbrev pub distance : ℕ → ℕ → ℕ
-distance a b = (a - b) + (b - a)
-
 abbrev pub spanCells : ℕ → ℕ → ℕ
 spanCells s d = (d + (s - 1)) / s + 1
 

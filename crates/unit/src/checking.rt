@@ -1,5 +1,5 @@
 // Coding's checks 1 to 6, in order.
-ghost use Prim.Native.Nat.{_-_, _/_, _≤_};
+ghost use Prim.Native.Nat.{_/_, _≤_};
 ghost use mathlib.Core.Path.{_≡_};
 ghost use mathlib.Core.Bool.{_||_};
 ghost use lib.Dec.{ltb};
@@ -14,22 +14,11 @@ use crate::Kind;
 use crate::extents;
 use ground::Rectangle;
 
-// Whether an angle is more than 1° above another.
-fn degree_apart(low: u32, high: u32) -> bool
-    ensures { λ r. ⌜ r ≡ ltb 7372800 (high - low) ⌝ }
-{
-    low < high && 7372800 < high - low
-}
-
 // Whether one of the extents is above 1°.
 fn wide(r: Rectangle) -> bool
     ensures { λ w. ⌜ w ≡ (ltb 7372800 (latExtent r) || ltb 7372800 (lonExtent r)) ⌝ }
 {
-    let west = r.west;
-    let east = r.east;
-    let south = r.south;
-    let north = r.north;
-    degree_apart(south.0, north.0) || degree_apart(west.0, east.0)
+    7372800 < extents::lat_extent(r) || 7372800 < extents::lon_extent(r)
 }
 
 // Whether a number is none that a unit of a kind can have.

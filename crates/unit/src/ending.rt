@@ -1,14 +1,15 @@
 // The end of coding around what a search hands in: the fields of a cell, and the writing of its code.
 ghost use mathlib.Core.Path.{_≡_};
-ghost use Prim.Native.Nat.{_≤_, _-_};
+ghost use Prim.Native.Nat.{_≤_};
 ghost use Rattle.ground.specs.Cells.{sidesOf, locationCell, cornerOf};
 ghost use Rattle.code.specs.Code.{writing};
 ghost use Rattle.unit.specs.Extents.{spanOf};
-ghost use Rattle.unit.specs.Unit.{distance, spanCells, fieldsOf};
+ghost use Rattle.unit.specs.Unit.{spanCells, fieldsOf};
 ghost use Rattle.unit.specs.Frame.{leaves, ending, finishing};
 ghost use Rattle.unit.specs.declared.Choice.the-variants.{At};
 use crate::Choice;
 use crate::Coded;
+use crate::extents;
 use crate::scale_of;
 use code::Fields;
 use ground::Cell;
@@ -18,30 +19,12 @@ use ground::Point;
 use ground::Rectangle;
 use ground::Sides;
 
-// A number less another, and 0 where that is greater.
-fn less(a: u32, b: u32) -> u32
-    ensures { λ r. ⌜ r ≡ a - b ⌝ }
-{
-    if a < b { 0 } else { a - b }
-}
-
-// How far two angles of one direction are from each other.
-fn apart(a: u32, b: u32) -> u32
-    ensures { λ r. ⌜ r ≡ distance a b ⌝ }
-{
-    if a < b { b - a } else { a - b }
-}
-
 // The larger of the two extents.
 fn span(r: Rectangle) -> u32
     ensures { λ s. ⌜ s ≡ spanOf r ⌝ }
 {
-    let west = r.west;
-    let east = r.east;
-    let south = r.south;
-    let north = r.north;
-    let lat = less(north.0, south.0);
-    let lon = less(east.0, west.0);
+    let lat = extents::lat_extent(r);
+    let lon = extents::lon_extent(r);
     if lat < lon { lon } else { lat }
 }
 
@@ -70,8 +53,8 @@ fn reference(c: Cell, sides: Rectangle) -> Point
     let lat = p.lat;
     let lon = p.lon;
     Point {
-        lat: Lat(less(lat.0, 32)),
-        lon: Lon(less(lon.0, 32)),
+        lat: Lat(extents::less(lat.0, 32)),
+        lon: Lon(extents::less(lon.0, 32)),
     }
 }
 
@@ -92,10 +75,10 @@ fn fields(r: Rectangle, number: u32, c: Cell, sides: Rectangle) -> Fields
     Fields {
         reference: p,
         scale: level,
-        east: span_cells(s, apart(lon.0, east.0)),
-        west: span_cells(s, apart(lon.0, west.0)),
-        south: span_cells(s, apart(lat.0, south.0)),
-        north: span_cells(s, apart(lat.0, north.0)),
+        east: span_cells(s, ground::apart(lon.0, east.0)),
+        west: span_cells(s, ground::apart(lon.0, west.0)),
+        south: span_cells(s, ground::apart(lat.0, south.0)),
+        north: span_cells(s, ground::apart(lat.0, north.0)),
         number,
     }
 }

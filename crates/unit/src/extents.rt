@@ -1,9 +1,9 @@
 // The extents of a unit, and its first corner above the range, over the caller's numbers.
 ghost use mathlib.Core.Path.{_≡_};
-ghost use Prim.Native.Nat.{min, max};
+ghost use Prim.Native.Nat.{_-_, min, max};
 ghost use Rattle.replies.specs.Places.{firstPlace};
 ghost use Rattle.boundary.specs.Corners.{cornersOf};
-ghost use Rattle.unit.specs.Extents.{extremesOf};
+ghost use Rattle.unit.specs.Extents.{extremesOf, latExtent, lonExtent};
 ghost use Rattle.unit.specs.Unit.{aboveRange};
 ghost use Rattle.unit.specs.Widening.{widened};
 use boundary::corner;
@@ -70,6 +70,31 @@ pub fn extremes(numbers: &[u32]) -> Rectangle
         i += 1;
     }
     r
+}
+
+// A number less another, and 0 where that is greater.
+pub(crate) fn less(a: u32, b: u32) -> u32
+    ensures { λ r. ⌜ r ≡ a - b ⌝ }
+{
+    if a < b { 0 } else { a - b }
+}
+
+// The extent in latitude.
+pub(crate) fn lat_extent(r: Rectangle) -> u32
+    ensures { λ e. ⌜ e ≡ latExtent r ⌝ }
+{
+    let south = r.south;
+    let north = r.north;
+    less(north.0, south.0)
+}
+
+// The extent in longitude.
+pub(crate) fn lon_extent(r: Rectangle) -> u32
+    ensures { λ e. ⌜ e ≡ lonExtent r ⌝ }
+{
+    let west = r.west;
+    let east = r.east;
+    less(east.0, west.0)
 }
 
 // Whether a point has a coordinate above its range.

@@ -8,11 +8,17 @@ use Rattle.boundary.proofs.side.product.Tie as tie
 apart-requires : tie.Need-apart-requires
 apart-requires c κs = search needs
 
+cast-t9 : tie.Need-cast-t9
+cast-t9 c = search needs
+
 apart-requires-2 : tie.Need-apart-requires-2
 apart-requires-2 c κs = search needs
 
-mul-t10 : tie.Need-mul-t10
-mul-t10 c =
+cast-t11 : tie.Need-cast-t11
+cast-t11 c = search needs
+
+mul-t12 : tie.Need-mul-t12
+mul-t12 c =
     let a = c .before .before .args in
     rw (c .before .apart .ensures, c .apart2 .ensures) (omega (arith, distances-fit (a .a) (a .b) (a .c) (a .d) (search needs) (search needs) (search needs) (search needs)))
 
@@ -22,4 +28,4 @@ returns c =
     rw (c .before .apart .ensures, c .apart2 .ensures) (product-signed (a .a) (a .b) (a .c) (a .d))
 
 pub product-spec : {M : Type 1} → statement M
-product-spec = tie.close (tie.spec apart-requires apart-requires-2 mul-t10 returns)
+product-spec = tie.close (tie.spec apart-requires cast-t9 apart-requires-2 cast-t11 mul-t12 returns)
