@@ -48,13 +48,13 @@ low-below-high level a low high =
     at true = omega (arith, size-least level low high)
     at false = omega (arith, size-least level low high)
 
--- A low side is below the end of the range
-pub side-below : (level a end : ℕ) → 9 ≤ level → level ≤ 27 → isSide level a end ≡ true → a < end
+-- What passes the test for a side ends at or before the end of the range
+pub side-ends : (level a end : ℕ) → isSide level a end ≡ true → highSide level a ≤ end
 unfolding isSide
-side-below level a end low high e = at (eqb (lowSide level a) a) (leb (highSide level a) end) refl e
+side-ends level a end e = at (eqb (lowSide level a) a) (leb (highSide level a) end) refl e
   where
-    at : (t u : Bool) → leb (highSide level a) end ≡ u → (t && u) ≡ true → a < end
-    at true true k h = omega (arith, low-below-high level a low high, leb-true (highSide level a) end k)
+    at : (t u : Bool) → leb (highSide level a) end ≡ u → (t && u) ≡ true → highSide level a ≤ end
+    at true true k h = leb-true (highSide level a) end k
     at true false k h = absurd (false≢true h)
     at false u k h = absurd (false≢true h)
 

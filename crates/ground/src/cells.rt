@@ -1,6 +1,6 @@
 // A cell's sides on the ground, cuts included, and the centre of a rectangle.
 ghost use mathlib.Core.Path.{_≡_};
-ghost use Prim.Native.Nat.{_≤_, _<_};
+ghost use Prim.Native.Nat.{_≤_};
 ghost use Rattle.ground.specs.Cells.{afresh as Cells·afresh, lowSide, highSide, centreOf, halfway as Cells·halfway};
 ghost use Rattle.ground.specs.CellTest.{isSide, sidesFound};
 use crate::Cell;
@@ -24,36 +24,33 @@ fn afresh(level: u32) -> u32
     if level <= 15 { 7372800 } else { 122880 }
 }
 
-// The low side of the cell of a level that an angle lies in.
-fn low_side(level: u32, a: u32) -> u32
-    requires { ⌜ (9 ≤ level) × (level ≤ 27) ⌝ }
+// The low side of the cell of a level that an angle lies in, for all numbers.
+pub fn low_side(level: u32, a: u32) -> u32
     ensures { λ r. ⌜ r ≡ lowSide level a ⌝ }
 {
     let whole = afresh(level);
     let part = size(level);
+    if part == 0 {
+        return a / whole * whole;
+    }
     a / whole * whole + a % whole / part * part
 }
 
-// The high side of the cell whose low side is an angle within the range.
-fn high_side(level: u32, a: u32) -> u32
-    requires { ⌜ (9 ≤ level) × (level ≤ 27) × (a ≤ 1327104000) ⌝ }
+// The high side of the cell whose low side is an angle, for all numbers: it may pass 32 bits.
+pub fn high_side(level: u32, a: u32) -> u64
     ensures { λ r. ⌜ r ≡ highSide level a ⌝ }
 {
     let whole = afresh(level);
-    let full = a + size(level);
-    let cut = a / whole * whole + whole;
+    let full = a as u64 + size(level) as u64;
+    let cut = (a / whole * whole) as u64 + whole as u64;
     if full < cut { full } else { cut }
 }
 
 // Whether an angle is the low side of a cell that ends at or before an end of the range.
 fn is_side(level: u32, a: u32, end: u32) -> bool
-    requires { ⌜ (9 ≤ level) × (level ≤ 27) × (end ≤ 1327104000) ⌝ }
     ensures { λ r. ⌜ r ≡ isSide level a end ⌝ }
 {
-    if end < a {
-        return false;
-    }
-    low_side(level, a) == a && high_side(level, a) <= end
+    low_side(level, a) == a && high_side(level, a) <= end as u64
 }
 
 // The sides of a cell, for all numbers.
@@ -77,9 +74,9 @@ pub fn sides_found(c: Cell) -> Sides
     }
     Sides::Of(Rectangle {
         west,
-        east: Lon(high_side(level, west.0)),
+        east: Lon(high_side(level, west.0) as u32),
         south,
-        north: Lat(high_side(level, south.0)),
+        north: Lat(high_side(level, south.0) as u32),
     })
 }
 

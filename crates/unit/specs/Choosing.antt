@@ -25,7 +25,7 @@ use Rattle.boundary.specs.Odd.{Each}
 use Rattle.unit.specs.declared.Choice.{Choice}
 use Rattle.unit.specs.declared.Choice.the-variants.{At, Nowhere}
 use Rattle.unit.specs.Extents.{greatestFrom, greatest, extremesOf}
-use Rattle.unit.specs.Chosen.{Before, Chosen, sidesFrom, sidesOver, orElse, firstAmong, countUp, tried, choose}
+use Rattle.unit.specs.Chosen.{Before, Chosen, sidesFrom, sidesOver, orElse, firstAmong, countUp, tried, wests, souths, trySouth, tryWest, tryLevel, choose}
 use Rattle.unit.specs.Unit.{aboveRange}
 use Rattle.unit.specs.InExtents.{in-extents}
 
@@ -306,39 +306,27 @@ pub greatest-most : (f : Point → ℕ) (m : ℕ) (vs : List Point) → Each (λ
 greatest-most f m [] t = omega arith
 greatest-most f m (v ∷ vs) t = greatest-from-most f m (f v) vs (t .0) (t .1)
 
+-- The extents of corners within the range end within it
+pub range-ends : (corners : List Point) → InRange corners → (extremesOf corners .east .0 ≤ lonEnd) × (extremesOf corners .north .0 ≤ latEnd)
+unfolding extremesOf
+range-ends corners range = (greatest-most (λ p. p .lon .0) lonEnd corners (range .lon), greatest-most (λ p. p .lat .0) latEnd corners (range .lat))
+
 module _ (corners : List Point) where
-  -- The west and the south sides of a level that are tried
-  abbrev wests : ℕ → List ℕ
-  wests level = sidesOver level (extremesOf corners .west .0) (extremesOf corners .east .0)
-
-  abbrev souths : ℕ → List ℕ
-  souths level = sidesOver level (extremesOf corners .south .0) (extremesOf corners .north .0)
-
-  -- What trying a south side, a west side and a level gives
-  abbrev trySouth : ℕ → ℕ → ℕ → Choice
-  trySouth level west south = tried corners (record { level = level; west = lon west; south = lat south })
-
-  abbrev tryWest : ℕ → ℕ → Choice
-  tryWest level west = firstAmong (trySouth level west) (souths level)
-
-  abbrev tryLevel : ℕ → Choice
-  tryLevel level = firstAmong (tryWest level) (wests level)
-
   -- The computation tries the levels 9 to 27
-  choose-is : choose corners ≡ firstAmong tryLevel (countUp 19 9)
+  choose-is : choose corners ≡ firstAmong (tryLevel corners) (countUp 19 9)
   unfolding choose
   choose-is = refl
 
   module _ (d : Cell) (is : IsCell d) (t : T (inside corners d)) where
     -- A cell that is inside has its sides and its level among those that are tried
-    west-in : In (d .west .0) (wests (d .level))
+    west-in : In (d .west .0) (wests corners (d .level))
     unfolding sidesOf
     west-in =
         let within = in-extents corners d is (true-of (inside corners d) t) in
         over-in (d .level) (is .coarsest) (is .finest) (extremesOf corners .west .0) (extremesOf corners .east .0) (d .west .0) (is .west)
         (within .west) (within .east)
 
-    south-in : In (d .south .0) (souths (d .level))
+    south-in : In (d .south .0) (souths corners (d .level))
     unfolding sidesOf
     south-in =
         let within = in-extents corners d is (true-of (inside corners d) t) in
@@ -349,45 +337,45 @@ module _ (corners : List Point) where
     level-in = count-all 19 9 (d .level) (is .coarsest) (omega (arith, is .finest))
 
     -- and trying them gives a cell
-    some-south : trySouth (d .level) (d .west .0) (d .south .0) ≡ Nowhere → ⊥
+    some-south : trySouth corners (d .level) (d .west .0) (d .south .0) ≡ Nowhere → ⊥
     some-south e = tried-none corners d e t
 
-    some-west : tryWest (d .level) (d .west .0) ≡ Nowhere → ⊥
+    some-west : tryWest corners (d .level) (d .west .0) ≡ Nowhere → ⊥
     some-west e =
         some-south
-        (each-in (λ n. trySouth (d .level) (d .west .0) n ≡ Nowhere) (souths (d .level)) (d .south .0)
-        (first-none (trySouth (d .level) (d .west .0)) (souths (d .level)) e) south-in)
+        (each-in (λ n. trySouth corners (d .level) (d .west .0) n ≡ Nowhere) (souths corners (d .level)) (d .south .0)
+        (first-none (trySouth corners (d .level) (d .west .0)) (souths corners (d .level)) e) south-in)
 
-    some-level : tryLevel (d .level) ≡ Nowhere → ⊥
+    some-level : tryLevel corners (d .level) ≡ Nowhere → ⊥
     some-level e =
         some-west
-        (each-in (λ n. tryWest (d .level) n ≡ Nowhere) (wests (d .level)) (d .west .0)
-        (first-none (tryWest (d .level)) (wests (d .level)) e) west-in)
+        (each-in (λ n. tryWest corners (d .level) n ≡ Nowhere) (wests corners (d .level)) (d .west .0)
+        (first-none (tryWest corners (d .level)) (wests corners (d .level)) e) west-in)
 
   -- Where the computation says none, no cell of levels 9 to 27 is inside
   pub choose-none : choose corners ≡ Nowhere → (c : Cell) → IsCell c → T (inside corners c) → ⊥
   choose-none e c is t =
       some-level c is t
-      (each-in (λ n. tryLevel n ≡ Nowhere) (countUp 19 9) (c .level)
-      (first-none tryLevel (countUp 19 9) (sym choose-is ∙ e)) (level-in c is t))
+      (each-in (λ n. tryLevel corners n ≡ Nowhere) (countUp 19 9) (c .level)
+      (first-none (tryLevel corners) (countUp 19 9) (sym choose-is ∙ e)) (level-in c is t))
 
-  module _ (range : InRange corners) {c : Cell} (l : Found tryLevel (countUp 19 9) c) (w : Found (tryWest (l .number)) (wests (l .number)) c)
-      (s : Found (trySouth (l .number) (w .number)) (souths (l .number)) c) where
+  module _ (range : InRange corners) {c : Cell} (l : Found (tryLevel corners) (countUp 19 9) c) (w : Found (tryWest corners (l .number)) (wests corners (l .number)) c)
+      (s : Found (trySouth corners (l .number) (w .number)) (souths corners (l .number)) c) where
     -- A level, a west and a south side that are found first make a cell
     abbrev found : Cell
     found = record { level = l .number; west = lon (w .number); south = lat (s .number) }
 
     -- It is a cell
     found-cell : IsCell found
-    unfolding sidesOf extremesOf
+    unfolding sidesOf
     found-cell =
         let level = levels-are (l .number) (l .among) in
         let west =
         over-end (l .number) (level .0) (level .1) (extremesOf corners .west .0) (extremesOf corners .east .0) 180 (w .number)
-        (greatest-most (λ p. p .lon .0) lonEnd corners (range .lon)) (w .among) in
+        (range-ends corners range .0) (w .among) in
         let south =
         over-end (l .number) (level .0) (level .1) (extremesOf corners .south .0) (extremesOf corners .north .0) 90 (s .number)
-        (greatest-most (λ p. p .lat .0) latEnd corners (range .lat)) (s .among) in
+        (range-ends corners range .1) (s .among) in
         record {
           coarsest = level .0;
           finest = level .1;
@@ -402,12 +390,12 @@ module _ (corners : List Point) where
     none-before d is t (inl h) = some-level d is t (l .lesser (d .level) (level-in d is t) h)
     none-before d is t (inr (e, inl h)) =
         some-west d is t
-        (subst (λ (n : ℕ). tryWest n (d .west .0) ≡ Nowhere) (sym e)
-        (w .lesser (d .west .0) (subst (λ (n : ℕ). In (d .west .0) (wests n)) e (west-in d is t)) h))
+        (subst (λ (n : ℕ). tryWest corners n (d .west .0) ≡ Nowhere) (sym e)
+        (w .lesser (d .west .0) (subst (λ (n : ℕ). In (d .west .0) (wests corners n)) e (west-in d is t)) h))
     none-before d is t (inr (e, inr (k, h))) =
         some-south d is t
-        (subst₂ (λ (n m : ℕ). trySouth n m (d .south .0) ≡ Nowhere) (sym e) (sym k)
-        (s .lesser (d .south .0) (subst (λ (n : ℕ). In (d .south .0) (souths n)) e (south-in d is t)) h))
+        (subst₂ (λ (n m : ℕ). trySouth corners n m (d .south .0) ≡ Nowhere) (sym e) (sym k)
+        (s .lesser (d .south .0) (subst (λ (n : ℕ). In (d .south .0) (souths corners n)) e (south-in d is t)) h))
 
     -- so it is chosen
     found-chosen : Chosen corners c
@@ -419,13 +407,13 @@ module _ (corners : List Point) where
     -- What the computation gives is the chosen cell
     pub choose-chosen : {c : Cell} → choose corners ≡ At c → Chosen corners c
     choose-chosen {c} e =
-        let l : Found tryLevel (countUp 19 9) c = first-found tryLevel (countUp 19 9) (count-rising 19 9) (sym choose-is ∙ e) in
+        let l : Found (tryLevel corners) (countUp 19 9) c = first-found (tryLevel corners) (countUp 19 9) (count-rising 19 9) (sym choose-is ∙ e) in
         let level = levels-are (l .number) (l .among) in
-        let w : Found (tryWest (l .number)) (wests (l .number)) c =
-        first-found (tryWest (l .number)) (wests (l .number))
+        let w : Found (tryWest corners (l .number)) (wests corners (l .number)) c =
+        first-found (tryWest corners (l .number)) (wests corners (l .number))
         (over-rising (l .number) (level .0) (level .1) (extremesOf corners .west .0) (extremesOf corners .east .0)) (l .gives) in
-        let s : Found (trySouth (l .number) (w .number)) (souths (l .number)) c =
-        first-found (trySouth (l .number) (w .number)) (souths (l .number))
+        let s : Found (trySouth corners (l .number) (w .number)) (souths corners (l .number)) c =
+        first-found (trySouth corners (l .number) (w .number)) (souths corners (l .number))
         (over-rising (l .number) (level .0) (level .1) (extremesOf corners .south .0) (extremesOf corners .north .0)) (w .gives) in
         found-chosen range l w s
 

@@ -6,7 +6,6 @@ use mathlib.Core.Bool.{true, false, cond}
 use mathlib.Core.List.{List, [], _∷_}
 use lib.Dec.{T, ltb}
 use Rattle.ground.specs.declared.Point.{Point}
-use Rattle.ground.specs.declared.Rectangle.{Rectangle}
 use Rattle.ground.specs.declared.Cell.{Cell}
 use Rattle.ground.specs.Levels.{lat, lon}
 use Rattle.ground.specs.Cells.{lowSide, highSide, IsCell}
@@ -55,14 +54,25 @@ countUp (suc n) from = from ∷ countUp n (suc from)
 abbrev pub tried : List Point → Cell → Choice
 tried corners c = cond (inside corners c) (At c) Nowhere
 
--- The chosen cell as a computation: levels 9 to 27 in turn, west sides in turn, south sides in turn
+-- The west sides of a level that are tried, and the south sides
+abbrev pub wests : List Point → ℕ → List ℕ
+wests corners level = sidesOver level (extremesOf corners .west .0) (extremesOf corners .east .0)
+
+abbrev pub souths : List Point → ℕ → List ℕ
+souths corners level = sidesOver level (extremesOf corners .south .0) (extremesOf corners .north .0)
+
+-- A cell by its level, its west and its south side, if it is inside
+abbrev pub trySouth : List Point → ℕ → ℕ → ℕ → Choice
+trySouth corners level west south = tried corners (record { level = level; west = lon west; south = lat south })
+
+-- South sides in turn
+abbrev pub tryWest : List Point → ℕ → ℕ → Choice
+tryWest corners level west = firstAmong (trySouth corners level west) (souths corners level)
+
+-- West sides in turn
+abbrev pub tryLevel : List Point → ℕ → Choice
+tryLevel corners level = firstAmong (tryWest corners level) (wests corners level)
+
+-- The chosen cell as a computation: levels 9 to 27 in turn
 unfoldable pub choose : List Point → Choice
-choose corners =
-    let r : Rectangle = extremesOf corners in
-    firstAmong
-    (λ level. firstAmong
-    (λ west. firstAmong
-    (λ south. tried corners (record { level = level; west = lon west; south = lat south }))
-    (sidesOver level (r .south .0) (r .north .0)))
-    (sidesOver level (r .west .0) (r .east .0)))
-    (countUp 19 9)
+choose corners = firstAmong (tryLevel corners) (countUp 19 9)

@@ -34,7 +34,7 @@ use Rattle.unit.specs.Extents.{lats, lons, extremesOf, latExtent, lonExt
 use Rattle.unit.specs.Chosen.{choose}
 use Rattle.unit.specs.Unit.{scaleOf, spanCells, fieldsOf, badNumber, noCell, above31, spanAbove, codeAt, cornerChecks, codeChecks, coding}
 use Rattle.unit.specs.Scale.{scale-size, scale-written}
-use Rattle.unit.specs.Choosing.{greatest-most, InRange, in-range, choose-chosen}
+use Rattle.unit.specs.Choosing.{InRange, in-range, range-ends, choose-chosen}
 use Rattle.unit.specs.InExtents.{least-each, greatest-each, reference-lat, reference-lon, fields-least}
 
 -- So many cells of size s, less one, reach a distance, by less than s beyond it
@@ -114,15 +114,6 @@ extremes-hold corners =
     (greatest-each (lats corners))
 
 module _ {corners : List Point} {number : ℕ} {c : Cell} (p : Passing corners number c) where
-  -- The unit's greatest latitude and longitude are within the range
-  north-end : extremesOf corners .north .0 ≤ latEnd
-  unfolding extremesOf
-  north-end = greatest-most (λ v. v .lat .0) latEnd corners (p .range .lat)
-
-  east-end : extremesOf corners .east .0 ≤ lonEnd
-  unfolding extremesOf
-  east-end = greatest-most (λ v. v .lon .0) lonEnd corners (p .range .lon)
-
   -- The reference lies between the extremes
   placed-lat : Placed (extremesOf corners .south .0) (extremesOf corners .north .0) (cornerOf (locationCell c) .lat .0)
   placed-lat = reference-lat corners c (p .cell) (p .within)
@@ -140,8 +131,8 @@ module _ {corners : List Point} {number : ℕ} {c : Cell} (p : Passing corners n
       let ew = neither (ltb 31 (f .east)) (ltb 31 (f .west)) (ew-sn .0) in
       let sn = neither (ltb 31 (f .south)) (ltb 31 (f .north)) (ew-sn .1) in
       record {
-        lat = record { whole = placed-lat .whole; below = omega (arith, placed-lat .high, north-end) };
-        lon = record { whole = placed-lon .whole; below = omega (arith, placed-lon .high, east-end) };
+        lat = record { whole = placed-lat .whole; below = omega (arith, placed-lat .high, range-ends corners (p .range) .1) };
+        lon = record { whole = placed-lon .whole; below = omega (arith, placed-lon .high, range-ends corners (p .range) .0) };
         scale = scale-written (spanOf (extremesOf corners)) (omega (arith, p .lat, p .lon));
         east = (least .east, ltb-false 31 (f .east) (ew .0));
         north = (least .north, ltb-false 31 (f .north) (sn .1));
@@ -161,8 +152,8 @@ module _ {corners : List Point} {number : ℕ} {c : Cell} (p : Passing corners n
       let span : ℕ = spanOf (extremesOf corners) in
       let some : 0 < sizeOf (scaleOf span) = omega (arith, scale-size span) in
       record {
-        lon = beyond (sizeOf (scaleOf span)) lonEnd some placed-lon east-end;
-        lat = beyond (sizeOf (scaleOf span)) latEnd some placed-lat north-end;
+        lon = beyond (sizeOf (scaleOf span)) lonEnd some placed-lon (range-ends corners (p .range) .0);
+        lat = beyond (sizeOf (scaleOf span)) latEnd some placed-lat (range-ends corners (p .range) .1);
       }
 
   -- Every corner lies within that rectangle
@@ -203,7 +194,7 @@ pub record Entered (room : List ℕ) (corners : List Point) (number : ℕ) : Typ
   pub lon : lonExtent (extremesOf corners) ≤ degree
   pub unit : number ≤ 1048575
 
-pub entered : (room numbers : List ℕ) (kind : Kind) (number : ℕ) → Passed (take 6 (codeChecks room numbers kind number))
+pub entered : (room numbers : List ℕ) (kind : Kind) (number : ℕ) → Passed (take 6 (codeChecks (length room) numbers kind number))
     → Entered room (cornersOf numbers) number
 unfolding cornerChecks
 entered room numbers kind number p =
@@ -249,9 +240,9 @@ module _ (room numbers : List ℕ) (kind : Kind) (number : ℕ) where
   pub coded : coding room numbers kind number .said ≡ accepted → UnitCoded room numbers kind number
   unfolding coding cornerChecks
   coded e =
-      let p = passed (codeChecks room numbers kind number) tt (ap (λ (s : Said). s .number) e) in
+      let p = passed (codeChecks (length room) numbers kind number) tt (ap (λ (s : Said). s .number) e) in
       let last = p .1 .1 .1 .1 .1 .1 in
-      at (choose (cornersOf numbers)) refl (entered room numbers kind number (passed-take 6 (codeChecks room numbers kind number) p))
+      at (choose (cornersOf numbers)) refl (entered room numbers kind number (passed-take 6 (codeChecks (length room) numbers kind number) p))
       (last .0) (last .1 .0)
     where
       at : (choice : Choice) → choose (cornersOf numbers) ≡ choice → Entered room (cornersOf numbers) number

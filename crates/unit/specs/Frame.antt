@@ -33,7 +33,7 @@ abbrev pub leaves : Coded → List ℕ → Outcome
 leaves answer room = record { said = says answer; room = room }
 
 -- Checks 1 to 6, before a cell is looked for
-unfoldable pub firstChecks : List ℕ → List ℕ → Kind → ℕ → List Check
+unfoldable pub firstChecks : ℕ → List ℕ → Kind → ℕ → List Check
 firstChecks room numbers kind number = take 6 (codeChecks room numbers kind number)
 
 -- What writing from a cell's fields comes to: acceptance, or 8, since a chosen cell's fields can fail by a span alone

@@ -1,12 +1,12 @@
 -- The frame makes coding whole: where one of checks 1 to 6 refuses, coding says what it says and leaves the room; else coding is its end
 -- around the chosen cell. Assumes nothing.
 use Prim.Native.Nat.{ℕ, zero, suc, _≤_}
-use mathlib.Core.Path.{_≡_, refl, ap, sym, _∙_}
+use mathlib.Core.Path.{_≡_, refl, ap, ap₂, sym, _∙_}
 use mathlib.Core.Bool.{Bool, true, false, cond, true≢false}
 use mathlib.Core.List.{List, [], _∷_}
 use lib.ListN.{length, take, drop}
 use borrow.Author.Tests.{ne-eqb, le-ltb}
-use Rattle.replies.specs.Replies.{Said, refused, Check, check, run, outcome}
+use Rattle.replies.specs.Replies.{Said, refused, Check, check, run, Outcome, outcome}
 use Rattle.replies.specs.Tests.{none-of, Passed, passed}
 use Rattle.ground.specs.declared.Point.{Point}
 use Rattle.ground.specs.declared.Rectangle.{Rectangle}
@@ -16,14 +16,15 @@ use Rattle.code.specs.Code.{writing, codeOf}
 use Rattle.code.specs.Writing.{Good, good-writing, zero-writing, refused-writing}
 use Rattle.boundary.specs.Corners.{cornersOf}
 use Rattle.unit.specs.declared.Kind.{Kind}
+use Rattle.unit.specs.declared.Coded.{Coded}
 use Rattle.unit.specs.declared.Choice.{Choice}
 use Rattle.unit.specs.declared.Choice.the-variants.{At, Nowhere}
 use Rattle.unit.specs.Extents.{extremesOf}
 use Rattle.unit.specs.Chosen.{choose}
 use Rattle.unit.specs.Unit.{fieldsOf, noCell, above31, spanAbove, codeAt, cornerChecks, codeChecks, coding}
-use Rattle.unit.specs.Choosing.{choose-chosen}
+use Rattle.unit.specs.Choosing.{InRange, choose-chosen}
 use Rattle.unit.specs.Cover.{fields-good, Entered, entered, passing}
-use Rattle.unit.specs.Frame.{ending, firstChecks, finishing}
+use Rattle.unit.specs.Frame.{says, leaves, ending, firstChecks, finishing}
 use Rattle.unit.specs.Ending.{finish-cell, finish-nowhere}
 
 -- Where one of the first rows of a table refuses, the table says what they say
@@ -65,22 +66,27 @@ spans-end room f long so = at (above31 f) refl
 
 module _ (room numbers : List ℕ) (kind : Kind) (number : ℕ) where
   -- Where one of checks 1 to 6 refuses, coding says what it says and leaves the room
-  pub framed-refused : (run (firstChecks room numbers kind number) .number ≡ 0 → ⊥)
-      → coding room numbers kind number ≡ record { said = run (firstChecks room numbers kind number); room = room }
+  pub framed-refused : (run (firstChecks (length room) numbers kind number) .number ≡ 0 → ⊥)
+      → coding room numbers kind number ≡ record { said = run (firstChecks (length room) numbers kind number); room = room }
   unfolding coding firstChecks
   framed-refused h =
-      let same = first-rows 6 (codeChecks room numbers kind number) h in
-      rw (same, ne-eqb (run (take 6 (codeChecks room numbers kind number)) .number) 0 h)
+      let same = first-rows 6 (codeChecks (length room) numbers kind number) h in
+      rw (same, ne-eqb (run (take 6 (codeChecks (length room) numbers kind number)) .number) 0 h)
 
-  -- Else coding is its end around the chosen cell
-  pub framed : run (firstChecks room numbers kind number) .number ≡ 0
+  -- Else the corners are within the range
+  pub checked-range : run (firstChecks (length room) numbers kind number) .number ≡ 0 → InRange (cornersOf numbers)
+  unfolding firstChecks cornerChecks
+  checked-range e = entered room numbers kind number (passed (take 6 (codeChecks (length room) numbers kind number)) tt e) .range
+
+  -- and coding is its end around the chosen cell
+  pub framed : run (firstChecks (length room) numbers kind number) .number ≡ 0
       → coding room numbers kind number ≡ finishing room (extremesOf (cornersOf numbers)) number (choose (cornersOf numbers))
   unfolding coding firstChecks cornerChecks
   framed e =
       let corners : List Point = cornersOf numbers in
-      let p = passed (take 6 (codeChecks room numbers kind number)) tt e in
+      let p = passed (take 6 (codeChecks (length room) numbers kind number)) tt e in
       ap (λ (s : Said). outcome s (codeAt (extremesOf corners) number (choose corners)) room)
-      (other-rows 6 (codeChecks room numbers kind number) p)
+      (other-rows 6 (codeChecks (length room) numbers kind number) p)
       ∙ at (choose corners) refl (entered room numbers kind number p)
     where
       at : (choice : Choice) → choose (cornersOf numbers) ≡ choice → Entered room (cornersOf numbers) number
@@ -94,3 +100,22 @@ module _ (room numbers : List ℕ) (kind : Kind) (number : ℕ) where
           spans-end room (fieldsOf r number c) (h .long) (λ spans. fields-good (passing h chosen spans))
           ∙ finish-cell room r number c (is-cell c (choose-chosen (cornersOf numbers) (h .range) chosen .cell))
       at Nowhere chosen h = finish-nowhere room (extremesOf (cornersOf numbers)) number
+
+  module _ (a : Coded) (say : says a ≡ run (firstChecks (length room) numbers kind number)) where
+    -- So a road that checks 1 to 6 refuse answers what they say and leaves the room
+    pub road-refused : (says a .number ≡ 0 → ⊥) → leaves a room ≡ coding room numbers kind number
+    road-refused h =
+        ap (λ (s : Said). record { said = s; room = room }) say
+        ∙ sym (framed-refused (λ e. h (ap (λ (s : Said). s .number) say ∙ e)))
+
+    -- one that they accept may search within the range
+    pub road-range : says a .number ≡ 0 → InRange (cornersOf numbers)
+    road-range h = checked-range (sym (ap (λ (s : Said). s .number) say) ∙ h)
+
+    -- and codes by ending around the chosen cell
+    pub road-ends : says a .number ≡ 0 → {o : Outcome} {r : Rectangle} {choice : Choice} → r ≡ extremesOf (cornersOf numbers)
+        → choice ≡ choose (cornersOf numbers) → o ≡ finishing room r number choice → o ≡ coding room numbers kind number
+    road-ends h own chosen ended =
+        ended
+        ∙ ap₂ (λ (x : Rectangle) (y : Choice). finishing room x number y) own chosen
+        ∙ sym (framed (sym (ap (λ (s : Said). s .number) say) ∙ h))

@@ -282,5 +282,5 @@ coding-same {room} {numbers} {others} h k g kind number =
     )
   where
     passes : (numbers : List ℕ) → Counted room numbers
-        → run (codeChecks room numbers kind number) .number ≡ run (cornerChecks (cornersOf numbers) kind number) .number
+        → run (codeChecks (length room) numbers kind number) .number ≡ run (cornerChecks (cornersOf numbers) kind number) .number
     passes numbers h = rw (h .long, h .even, h .corners)

@@ -89,10 +89,10 @@ cornerChecks corners kind number =
     ∷ check 8 (spanAbove r number (choose corners))
     ∷ []
 
--- Coding: 1 to 3, then the others
-abbrev pub codeChecks : List ℕ → List ℕ → Kind → ℕ → List Check
+-- Coding: 1 to 3, then the others; the output by its length
+abbrev pub codeChecks : ℕ → List ℕ → Kind → ℕ → List Check
 codeChecks room numbers kind number =
-    check 1 (ltb (length room) 20)
+    check 1 (ltb room 20)
     ∷ check 2 (eqb (length numbers % 2) 1)
     ∷ check 3 (outside 3 1024 (length numbers / 2))
     ∷ cornerChecks (cornersOf numbers) kind number
@@ -100,6 +100,6 @@ codeChecks room numbers kind number =
 -- Coding, from room, numbers, kind and unit number to what it says and the room
 unfoldable pub coding : List ℕ → List ℕ → Kind → ℕ → Outcome
 coding room numbers kind number =
-    outcome (run (codeChecks room numbers kind number))
+    outcome (run (codeChecks (length room) numbers kind number))
     (codeAt (extremesOf (cornersOf numbers)) number (choose (cornersOf numbers)))
     room

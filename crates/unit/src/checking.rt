@@ -49,11 +49,12 @@ fn corner_checks(numbers: &[u32], kind: Kind, number: u32) -> Coded
     Coded::Accepted
 }
 
-// What checks 1 to 6 say: the first that refuses, or acceptance; a cell is looked for only then.
-pub fn checks(room: &[u8], numbers: &[u32], kind: Kind, number: u32) -> Coded
-    ensures { λ r. ⌜ says r ≡ run (firstChecks (now (room .entry)) (now (numbers .entry)) kind number) ⌝ }
+// What checks 1 to 6 say of so many bytes of room: the first that refuses, or acceptance; a cell is
+// looked for only then.
+pub fn checks(room: usize, numbers: &[u32], kind: Kind, number: u32) -> Coded
+    ensures { λ r. ⌜ says r ≡ run (firstChecks room (now (numbers .entry)) kind number) ⌝ }
 {
-    if room.len() < 20 {
+    if room < 20 {
         return Coded::Output;
     }
     if numbers.len() % 2 == 1 {

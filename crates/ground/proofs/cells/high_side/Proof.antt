@@ -1,18 +1,12 @@
 -- `ground::cells::high_side` meets its contract: the full size, or the cut where that comes first. Assumes nothing.
-use Prim.Native.Nat.{ℕ, _+_, _*_, _/_, _%_, _≤_, min}
+use Prim.Native.Nat.{ℕ, _+_, _*_, _/_, _%_, min}
 use native.Mathlib.Nat.{div-add-mod'}
 use native.Mathlib.Omega.{arith}
-use mathlib.Core.Path.{_≡_, ap₂, sym, subst}
+use mathlib.Core.Path.{_≡_, ap₂}
 use Rattle.ground.specs.Cells.{highSide}
-use Rattle.ground.specs.Sizes.{size-most}
 use borrow.Author.Needs.{needs}
 use Rattle.ground.proofs.cells.high_side.Statement.{statement}
 use Rattle.ground.proofs.cells.high_side.Tie as tie
-
-most : (c : tie.After-size) → c .size .result ≤ 7372800
-most c =
-    let p = c .before .before .pre in
-    subst (λ (n : ℕ). n ≤ 7372800) (sym (c .size .ensures)) (size-most (c .before .before .args .level) (p .0) (p .1))
 
 whole : (c : tie.After-size)
     → c .before .before .args .a / c .before .afresh .result * c .before .afresh .result + c .before .before .args .a % c .before .afresh .result
@@ -34,14 +28,23 @@ afresh-requires c κs = search needs
 size-requires : tie.Need-size-requires
 size-requires c κs = search needs
 
+cast-full : tie.Need-cast-full
+cast-full c = search needs
+
 add-full : tie.Need-add-full
-add-full c = omega (arith, most c)
+add-full c = search needs
 
 div-cut : tie.Need-div-cut
 div-cut c = search needs
 
 mul-cut : tie.Need-mul-cut
 mul-cut c = omega (arith, whole c)
+
+cast-cut : tie.Need-cast-cut
+cast-cut c = omega (arith, whole c)
+
+cast-cut-2 : tie.Need-cast-cut-2
+cast-cut-2 c = search needs
 
 add-cut : tie.Need-add-cut
 add-cut c = omega (arith, whole c)
@@ -55,4 +58,15 @@ returns-2 c = omega (arith, side (c .before), c .if1 .left)
 pub high-side-spec : {M : Type 1} → statement M
 high-side-spec =
     tie.close
-    (tie.spec afresh-requires size-requires add-full div-cut mul-cut add-cut returns returns-2)
+    (tie.spec
+    afresh-requires
+    size-requires
+    cast-full
+    add-full
+    div-cut
+    mul-cut
+    cast-cut
+    cast-cut-2
+    add-cut
+    returns
+    returns-2)

@@ -1,18 +1,12 @@
 -- `ground::cells::low_side` meets its contract: a low side is at most the angle, so it fits. Assumes nothing.
-use Prim.Native.Nat.{ℕ, _+_, _*_, _/_, _%_, _≤_}
+use Prim.Native.Nat.{ℕ, _+_, _*_, _/_, _%_}
 use native.Mathlib.Nat.{div-add-mod'}
 use native.Mathlib.Omega.{arith}
-use mathlib.Core.Path.{_≡_, sym, subst}
+use mathlib.Core.Path.{_≡_}
 use Rattle.ground.specs.Cells.{lowSide}
-use Rattle.ground.specs.Sizes.{size-least}
 use borrow.Author.Needs.{needs}
 use Rattle.ground.proofs.cells.low_side.Statement.{statement}
 use Rattle.ground.proofs.cells.low_side.Tie as tie
-
-wide : (c : tie.After-size) → 32 ≤ c .size .result
-wide c =
-    let p = c .before .before .pre in
-    subst (λ (n : ℕ). 32 ≤ n) (sym (c .size .ensures)) (size-least (c .before .before .args .level) (p .0) (p .1))
 
 whole : (c : tie.After-size)
     → c .before .before .args .a / c .before .afresh .result * c .before .afresh .result + c .before .before .args .a % c .before .afresh .result
@@ -25,6 +19,13 @@ part : (c : tie.After-size)
     ≡ c .before .before .args .a % c .before .afresh .result
 part c = div-add-mod' (c .before .before .args .a % c .before .afresh .result) (c .size .result)
 
+side : (c : tie.After-size)
+    → c .before .before .args .a / c .before .afresh .result * c .before .afresh .result
+    + c .before .before .args .a % c .before .afresh .result / c .size .result * c .size .result
+    ≡ lowSide (c .before .before .args .level) (c .before .before .args .a)
+unfolding lowSide
+side c = rw (c .before .afresh .ensures .0, c .size .ensures)
+
 afresh-requires : tie.Need-afresh-requires
 afresh-requires c κs = search needs
 
@@ -35,23 +36,33 @@ div-result : tie.Need-div-result
 div-result c = search needs
 
 mul-result : tie.Need-mul-result
-mul-result c = omega (arith, whole c)
+mul-result c = omega (arith, whole (c .before))
+
+returns : tie.Need-returns
+returns c =
+    let none : c .before .before .before .args .a % c .before .before .afresh .result / c .before .size .result * c .before .size .result ≡ 0 = rw (c .if1 .taken) (omega arith) in
+    omega (arith, side (c .before), none)
+
+div-result-2 : tie.Need-div-result-2
+div-result-2 c = search needs
+
+mul-result-2 : tie.Need-mul-result-2
+mul-result-2 c = omega (arith, whole (c .before))
 
 rem-result : tie.Need-rem-result
 rem-result c = search needs
 
-div-result-2 : tie.Need-div-result-2
-div-result-2 c = omega (arith, wide c)
+div-result-3 : tie.Need-div-result-3
+div-result-3 c = search needs
 
-mul-result-2 : tie.Need-mul-result-2
-mul-result-2 c = omega (arith, whole c, part c)
+mul-result-3 : tie.Need-mul-result-3
+mul-result-3 c = omega (arith, whole (c .before), part (c .before))
 
 add-result : tie.Need-add-result
-add-result c = omega (arith, whole c, part c)
+add-result c = omega (arith, whole (c .before), part (c .before))
 
-returns : tie.Need-returns
-unfolding lowSide
-returns c = rw (c .before .afresh .ensures .0, c .size .ensures)
+returns-2 : tie.Need-returns-2
+returns-2 c = side (c .before)
 
 pub low-side-spec : {M : Type 1} → statement M
 low-side-spec =
@@ -61,8 +72,11 @@ low-side-spec =
     size-requires
     div-result
     mul-result
-    rem-result
+    returns
     div-result-2
     mul-result-2
+    rem-result
+    div-result-3
+    mul-result-3
     add-result
-    returns)
+    returns-2)

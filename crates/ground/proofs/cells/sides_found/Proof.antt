@@ -3,24 +3,23 @@ use Prim.Native.Nat.{_≤_}
 use native.Mathlib.Omega.{arith}
 use mathlib.Core.Path.{sym, _∙_}
 use borrow.Author.Tests.{le-leb, lt-leb, not-true, not-false}
-use Rattle.ground.specs.Cells.{sidesOf}
-use Rattle.ground.specs.CellTest.{isCell, sidesFound, side-below}
+use Rattle.ground.specs.Levels.{latEnd, lonEnd}
+use Rattle.ground.specs.Cells.{highSide, sidesOf}
+use Rattle.ground.specs.CellTest.{isCell, sidesFound, side-ends}
 use borrow.Author.Needs.{needs}
 use Rattle.ground.proofs.cells.sides_found.Statement.{statement}
 use Rattle.ground.proofs.cells.sides_found.Tie as tie
 
-in-range : (c : tie.Else4)
-    → ((9 ≤ c .before .before .before .before .before .before .before .before .args .c .level) × (c .before .before .before .before .before .before .before .before .args .c .level ≤ 27) × (c .before .before .before .before .before .before .before .before .args .c .west .0 ≤ 1327104000))
-    × ((9 ≤ c .before .before .before .before .before .before .before .before .args .c .level) × (c .before .before .before .before .before .before .before .before .args .c .level ≤ 27) × (c .before .before .before .before .before .before .before .before .args .c .south .0 ≤ 1327104000))
-in-range c =
+ends : (c : tie.Else4)
+    → (highSide (c .before .before .before .before .before .before .before .before .args .c .level) (c .before .before .before .before .before .before .before .before .args .c .west .0) ≤ lonEnd)
+    × (highSide (c .before .before .before .before .before .before .before .before .args .c .level) (c .before .before .before .before .before .before .before .before .args .c .south .0) ≤ latEnd)
+ends c =
     let c3 = c .before .before in
-    let c2 = c3 .before .before in
-    let a = c2 .before .before .before .before .args .c in
-    let low = c2 .before .if1 .left in
-    let high = c2 .if2 .left in
-    let west = side-below (a .level) (a .west .0) 1327104000 low high (sym (c3 .before .is-side .ensures) ∙ not-false _ (c3 .if3 .left)) in
-    let south = side-below (a .level) (a .south .0) 663552000 low high (sym (c .before .is-side2 .ensures) ∙ not-false _ (c .if4 .left)) in
-    ((low, high, omega arith), (low, high, omega arith))
+    let a = c3 .before .before .before .before .before .before .args .c in
+    (
+      side-ends (a .level) (a .west .0) lonEnd (sym (c3 .before .is-side .ensures) ∙ not-false _ (c3 .if3 .left)),
+      side-ends (a .level) (a .south .0) latEnd (sym (c .before .is-side2 .ensures) ∙ not-false _ (c .if4 .left)),
+    )
 
 returns : tie.Need-returns
 unfolding sidesFound isCell
@@ -59,10 +58,16 @@ returns-4 c =
     )
 
 high-side-requires : tie.Need-high-side-requires
-high-side-requires c κs = in-range c .0
+high-side-requires c κs = search needs
+
+cast-t8 : tie.Need-cast-t8
+cast-t8 c = omega (arith, c .high-side .ensures, ends (c .before) .0)
 
 high-side-requires-2 : tie.Need-high-side-requires-2
-high-side-requires-2 c κs = in-range (c .before) .1
+high-side-requires-2 c κs = search needs
+
+cast-t11 : tie.Need-cast-t11
+cast-t11 c = omega (arith, c .high-side2 .ensures, ends (c .before .before) .1)
 
 returns-5 : tie.Need-returns-5
 unfolding sidesFound isCell sidesOf
@@ -91,5 +96,7 @@ sides-found-spec =
     is-side-requires-2
     returns-4
     high-side-requires
+    cast-t8
     high-side-requires-2
+    cast-t11
     returns-5)

@@ -14,17 +14,17 @@ use Rattle.unit.proofs.checking.checks.Statement.{statement}
 use Rattle.unit.proofs.checking.checks.Tie as tie
 
 -- what the checks have said where each is passed
-long : (c : tie.Else1) → ltb (length (c .before .before .before .args .room .now)) 20 ≡ false
+long : (c : tie.Else1) → ltb (c .before .before .args .room) 20 ≡ false
 long c = le-ltb _ 20 (c .if1 .left)
 
-paired : (c : tie.Else2) → eqb (length (c .before .before .before .before .args .numbers .now) % 2) 1 ≡ false
+paired : (c : tie.Else2) → eqb (length (c .before .before .before .args .numbers .now) % 2) 1 ≡ false
 paired c = ne-eqb _ 1 (c .if2 .left)
 
-amiss : (c : tie.Joined3) → outside 3 1024 (length (c .before .before .before .before .before .args .numbers .now) / 2) ≡ true
+amiss : (c : tie.Joined3) → outside 3 1024 (length (c .before .before .before .before .args .numbers .now) / 2) ≡ true
 amiss c =
     ⊎-elim (λ w. either-left _ (lt-ltb _ 3 (w .taken))) (λ w. either-right (le-ltb _ 3 (w .0 .left)) (w .1 .taken)) (c .if3 .came)
 
-fit : (c : tie.Else4) → outside 3 1024 (length (c .before .before .before .before .before .before .args .numbers .now) / 2) ≡ false
+fit : (c : tie.Else4) → outside 3 1024 (length (c .before .before .before .before .before .args .numbers .now) / 2) ≡ false
 fit c = none-of (le-ltb _ 3 (c .before .if3 .left)) (c .if4 .left)
 
 returns : tie.Need-returns

@@ -1,0 +1,21 @@
+// The plain road: coding a unit by trying the cells of each level in turn, coarsest level first.
+mod search;
+
+ghost use mathlib.Core.Path.{_≡_};
+ghost use Rattle.unit.specs.Unit.{coding};
+ghost use Rattle.unit.specs.Frame.{leaves};
+use unit::Coded;
+use unit::Kind;
+
+// Codes a unit, for all inputs: writes bytes 0 to 19 of the room, or refuses and writes nothing. Its
+// cost grows with the corners times the cells of the levels tried that lie over the extents.
+pub fn code(room: &mut [u8], numbers: &[u32], kind: Kind, number: u32) -> Coded
+    ensures { λ a. ⌜ leaves a (now (room .exit)) ≡ coding (now (room .entry)) (now (numbers .entry)) kind number ⌝ }
+{
+    let said = unit::checks(room.len(), numbers, kind, number);
+    if unit::coded_number(said) != 0 {
+        return said;
+    }
+    let r = unit::extremes(numbers);
+    unit::finish(room, r, number, search::chosen(numbers, r))
+}

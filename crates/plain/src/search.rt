@@ -1,0 +1,72 @@
+// The search for the chosen cell: levels in turn, west sides in turn, south sides in turn, until the
+// first cell that is inside.
+ghost use mathlib.Core.Path.{_≡_};
+ghost use Rattle.boundary.specs.Corners.{cornersOf};
+ghost use Rattle.unit.specs.Chosen.{tryWest, tryLevel, choose};
+ghost use Rattle.plain.specs.Asked.{Over, Level, West};
+use ground::Cell;
+use ground::Lat;
+use ground::Lon;
+use ground::Rectangle;
+use unit::Choice;
+
+// The first cell that is inside, of a level and a west side: south sides in turn.
+fn try_west(numbers: &[u32], r: Rectangle, level: u32, west: Lon) -> Choice
+    requires { ⌜ Over (cornersOf (now numbers)) r ⌝ }
+    requires { ⌜ Level level ⌝ }
+    requires { ⌜ West level (west .0) ⌝ }
+    ensures { λ c. ⌜ c ≡ tryWest (cornersOf (now (numbers .entry))) level (west .0) ⌝ }
+{
+    let from = r.south;
+    let to = r.north;
+    let mut south = ground::low_side(level, from.0);
+    while south < to.0 {
+        let c = Cell {
+            level,
+            west,
+            south: Lat(south),
+        };
+        if boundary::inside(numbers, c) {
+            return Choice::At(c);
+        }
+        south = ground::high_side(level, south) as u32;
+    }
+    Choice::Nowhere
+}
+
+// The first of a level: west sides in turn.
+fn try_level(numbers: &[u32], r: Rectangle, level: u32) -> Choice
+    requires { ⌜ Over (cornersOf (now numbers)) r ⌝ }
+    requires { ⌜ Level level ⌝ }
+    ensures { λ c. ⌜ c ≡ tryLevel (cornersOf (now (numbers .entry))) level ⌝ }
+{
+    let from = r.west;
+    let to = r.east;
+    let mut west = ground::low_side(level, from.0);
+    while west < to.0 {
+        let tried = try_west(numbers, r, level, Lon(west));
+        match tried {
+            Choice::At(c) => return Choice::At(c),
+            Choice::Nowhere => {}
+        }
+        west = ground::high_side(level, west) as u32;
+    }
+    Choice::Nowhere
+}
+
+// The chosen cell: levels 9 to 27 in turn.
+pub(crate) fn chosen(numbers: &[u32], r: Rectangle) -> Choice
+    requires { ⌜ Over (cornersOf (now numbers)) r ⌝ }
+    ensures { λ c. ⌜ c ≡ choose (cornersOf (now (numbers .entry))) ⌝ }
+{
+    let mut level = 9;
+    while level < 28 {
+        let tried = try_level(numbers, r, level);
+        match tried {
+            Choice::At(c) => return Choice::At(c),
+            Choice::Nowhere => {}
+        }
+        level += 1;
+    }
+    Choice::Nowhere
+}
