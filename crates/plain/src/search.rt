@@ -1,8 +1,8 @@
-// The search for the chosen cell: levels in turn, west sides in turn, south sides in turn, until the
+// The search of one level: west sides in turn, and for each of them south sides in turn, until the
 // first cell that is inside.
 ghost use mathlib.Core.Path.{_≡_};
 ghost use Rattle.boundary.specs.Corners.{cornersOf};
-ghost use Rattle.unit.specs.Chosen.{tryWest, tryLevel, choose};
+ghost use Rattle.unit.specs.Chosen.{tryWest, tryLevel};
 ghost use Rattle.plain.specs.Asked.{Over, Level, West};
 use ground::Cell;
 use ground::Lat;
@@ -35,7 +35,7 @@ fn try_west(numbers: &[u32], r: Rectangle, level: u32, west: Lon) -> Choice
 }
 
 // The first of a level: west sides in turn.
-fn try_level(numbers: &[u32], r: Rectangle, level: u32) -> Choice
+pub(crate) fn try_level(numbers: &[u32], r: Rectangle, level: u32) -> Choice
     requires { ⌜ Over (cornersOf (now numbers)) r ⌝ }
     requires { ⌜ Level level ⌝ }
     ensures { λ c. ⌜ c ≡ tryLevel (cornersOf (now (numbers .entry))) level ⌝ }
@@ -45,28 +45,10 @@ fn try_level(numbers: &[u32], r: Rectangle, level: u32) -> Choice
     let mut west = ground::low_side(level, from.0);
     while west < to.0 {
         let tried = try_west(numbers, r, level, Lon(west));
-        match tried {
-            Choice::At(c) => return Choice::At(c),
-            Choice::Nowhere => {}
+        if let Choice::At(c) = tried {
+            return Choice::At(c);
         }
         west = ground::high_side(level, west) as u32;
-    }
-    Choice::Nowhere
-}
-
-// The chosen cell: levels 9 to 27 in turn.
-pub(crate) fn chosen(numbers: &[u32], r: Rectangle) -> Choice
-    requires { ⌜ Over (cornersOf (now numbers)) r ⌝ }
-    ensures { λ c. ⌜ c ≡ choose (cornersOf (now (numbers .entry))) ⌝ }
-{
-    let mut level = 9;
-    while level < 28 {
-        let tried = try_level(numbers, r, level);
-        match tried {
-            Choice::At(c) => return Choice::At(c),
-            Choice::Nowhere => {}
-        }
-        level += 1;
     }
     Choice::Nowhere
 }

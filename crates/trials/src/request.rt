@@ -1,4 +1,5 @@
 // A request's answer, put into the output at a position. Each function says the position after it.
+use crate::road;
 use code::Fields;
 use code::Reading;
 use ground::Cell;
@@ -31,6 +32,9 @@ fn answer(text: &[u8], out: &mut [u8], at: usize) -> usize {
     }
     if lines::starts(text, b"read ") {
         return answer_read(text, out, at);
+    }
+    if lines::starts(text, b"plain ") {
+        return road::answer(text, 6, out, at);
     }
     if lines::starts(text, b"meets ") {
         return answer_meets(text, out, at);

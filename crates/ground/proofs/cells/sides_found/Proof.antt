@@ -15,8 +15,7 @@ ends : (c : tie.Else4)
     × (highSide (c .before .before .before .before .before .before .before .before .args .c .level) (c .before .before .before .before .before .before .before .before .args .c .south .0) ≤ latEnd)
 ends c =
     let c3 = c .before .before in
-    let a = c3 .before .before .before .before .before .before .args .c in
-    (
+    let a = c3 .before .before .before .before .before .before .args .c in (
       side-ends (a .level) (a .west .0) lonEnd (sym (c3 .before .is-side .ensures) ∙ not-false _ (c3 .if3 .left)),
       side-ends (a .level) (a .south .0) latEnd (sym (c .before .is-side2 .ensures) ∙ not-false _ (c .if4 .left)),
     )

@@ -1,4 +1,4 @@
--- `plain::search::chosen` meets its contract: the levels from `level` on are still to be tried. Assumes nothing.
+-- `plain::chosen` meets its contract: the levels from `level` on are still to be tried. Assumes nothing.
 use Prim.Native.Nat.{_-_}
 use native.Mathlib.Omega.{arith}
 use mathlib.Core.Path.{sym, _∙_}
@@ -6,8 +6,8 @@ use borrow.Author.Needs.{needs}
 use Rattle.boundary.specs.Corners.{cornersOf}
 use Rattle.unit.specs.Chosen.{tryLevel, choose}
 use Rattle.plain.specs.Turns.{LevelsLeft, levels-begin, levels-found, levels-again, levels-end}
-use Rattle.plain.proofs.search.chosen.Statement.{statement}
-use Rattle.plain.proofs.search.chosen.Tie as tie
+use Rattle.plain.proofs.chosen.Statement.{statement}
+use Rattle.plain.proofs.chosen.Tie as tie
 
 abbrev Inv-loop : tie.InvT-loop
 Inv-loop numbers r level₀ level = LevelsLeft (tryLevel (cornersOf numbers)) (choose (cornersOf numbers)) level
@@ -31,7 +31,7 @@ returns : tie.Need-returns Inv-loop μ-loop
 returns c =
     let tried = c .before .before .before in
     let loop = tried .before .before in
-    sym (levels-found (loop .loop .inv) (tried .before .loop-test .taken) (sym (tried .try-level .ensures) ∙ c .before .tried .given .1))
+    sym (levels-found (loop .loop .inv) (omega (arith, tried .before .loop-test .taken)) (sym (tried .try-level .ensures) ∙ c .before .tried .given .1))
 
 enum-told : tie.Need-enum-told Inv-loop μ-loop
 enum-told c = search needs
@@ -46,10 +46,10 @@ loop-again : tie.Need-loop-again Inv-loop μ-loop
 loop-again c =
     let tried = c .before .before in
     let loop = tried .before .before in
-    levels-again (loop .loop .inv) (tried .before .loop-test .taken) (sym (tried .try-level .ensures) ∙ c .enum-told .given .1)
+    levels-again (loop .loop .inv) (omega (arith, tried .before .loop-test .taken)) (sym (tried .try-level .ensures) ∙ c .enum-told .given .1)
 
 returns-2 : tie.Need-returns-2 Inv-loop μ-loop
-returns-2 c = sym (levels-end (c .before .loop .inv) (c .loop-test .left))
+returns-2 c = sym (levels-end (c .before .loop .inv) (omega (arith, c .loop-test .left)))
 
 pub chosen-spec : {M : Type 1} → statement M
 chosen-spec =

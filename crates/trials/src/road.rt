@@ -1,0 +1,67 @@
+// Coding a unit by a road: the answer to `plain ROOM KIND NUMBER COORDINATE..`.
+use lines::Number;
+use lines::Unit;
+use unit::Kind;
+
+// More numbers than a line has: each takes a space and a digit.
+const MOST: usize = lines::LONGEST / 2;
+
+// The answer to a request whose room's size starts at a position of the text: number, place, room.
+pub(crate) fn answer(text: &[u8], start: usize, out: &mut [u8], at: usize) -> usize {
+    let size = lines::number_at(text, start);
+    let Number::At(size, end) = size else {
+        return lines::put(out, at, b"?");
+    };
+    if size > 64 {
+        return lines::put(out, at, b"?");
+    }
+    if text.len() <= end {
+        return lines::put(out, at, b"?");
+    }
+    answer_unit(size as usize, &text[end + 1..text.len()], out, at)
+}
+
+// Codes the unit of a text into a room of so many bytes `.`, 64 at most.
+fn answer_unit(size: usize, text: &[u8], out: &mut [u8], at: usize) -> usize {
+    let mut numbers = [0u32; MOST];
+    let unit = lines::unit_of(text, &mut numbers);
+    let Unit::Stated(letter, number, count) = unit else {
+        return lines::put(out, at, b"?");
+    };
+    let mut room = [b'.'; 64];
+    if numbers.len() < count || room.len() < size {
+        return lines::put(out, at, b"?");
+    }
+    code_into(
+        &mut room[0..size],
+        &numbers[0..count],
+        kind_of(letter),
+        number,
+        out,
+        at,
+    )
+}
+
+fn kind_of(letter: u8) -> Kind {
+    if letter == b'B' {
+        return Kind::Building;
+    }
+    Kind::Other
+}
+
+// Codes a unit into the room.
+fn code_into(
+    room: &mut [u8],
+    numbers: &[u32],
+    kind: Kind,
+    number: u32,
+    out: &mut [u8],
+    at: usize,
+) -> usize {
+    let said = plain::code(room, numbers, kind, number);
+    let end = lines::put_decimal(out, at, unit::coded_number(said) as u64);
+    let end = lines::put(out, end, b" ");
+    let end = lines::put_decimal(out, end, unit::coded_place(said) as u64);
+    let end = lines::put(out, end, b" ");
+    lines::put(out, end, room)
+}
