@@ -4,3 +4,4 @@ pub mod Cells
 pub mod CellTest
 pub mod CellLaws
 pub mod Sides
+pub mod Halves

@@ -15,14 +15,14 @@ use Rattle.ground.specs.Cells.{afresh, startOf, lowSide, highSide}
 use Rattle.ground.specs.CellLaws.{afresh-so}
 
 -- An angle told by its starts afresh, its whole sizes since, and a rest
-record Told (level a q k t : ℕ) : Type 0 where
-  sum : a ≡ q * afresh level + (k * sizeOf level + t)
-  rest : t < sizeOf level
-  since : k * sizeOf level + t < afresh level
+pub record Told (level a q k t : ℕ) : Type 0 where
+  pub sum : a ≡ q * afresh level + (k * sizeOf level + t)
+  pub rest : t < sizeOf level
+  pub since : k * sizeOf level + t < afresh level
 
 module _ {level a q k t : ℕ} (h : Told level a q k t) where
   -- Its start and its low side leave out the rest
-  start-is : startOf level a ≡ q * afresh level
+  pub start-is : startOf level a ≡ q * afresh level
   start-is =
       let d : a / afresh level ≡ q = ap (λ (n : ℕ). n / afresh level) (h .sum) ∙ digits-div q (h .since) in
       cc
@@ -37,10 +37,10 @@ module _ {level a q k t : ℕ} (h : Told level a q k t) where
 
 module _ (level : ℕ) (coarsest : 9 ≤ level) (finest : level ≤ 27) where
   -- A size and a start afresh are some length
-  some-size : 0 < sizeOf level
+  pub some-size : 0 < sizeOf level
   some-size = omega (arith, size-least level coarsest finest)
 
-  some-afresh : 0 < afresh level
+  pub some-afresh : 0 < afresh level
   some-afresh = afresh-so (λ (n : ℕ). 0 < n) (omega arith) (omega arith) level
 
   -- Each angle is so told
@@ -52,12 +52,12 @@ module _ (level : ℕ) (coarsest : 9 ≤ level) (finest : level ≤ 27) where
       record { sum = omega arith; rest = mod-lt (a % afresh level) some-size; since = omega arith }
 
   -- and a low side with no rest
-  side-told : (a : ℕ) → lowSide level a ≡ a → Told level a (a / afresh level) (a % afresh level / sizeOf level) 0
+  pub side-told : (a : ℕ) → lowSide level a ≡ a → Told level a (a / afresh level) (a % afresh level / sizeOf level) 0
   unfolding lowSide
   side-told a is = let h = told a in record { sum = omega arith; rest = some-size; since = omega (arith, h .since) }
 
   -- What is told with no rest is a low side
-  told-side : {a : ℕ} (q k : ℕ) → Told level a q k 0 → lowSide level a ≡ a
+  pub told-side : {a : ℕ} (q k : ℕ) → Told level a q k 0 → lowSide level a ≡ a
   told-side q k h = omega (arith, low-is h, h .sum)
 
   -- The low side of an angle is told by the same starts and sizes, with no rest

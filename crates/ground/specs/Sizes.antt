@@ -16,11 +16,12 @@ abbrev every : (ℕ → Bool) → List ℕ → Bool
 every test [] = true
 every test (x ∷ xs) = test x && every test xs
 
-first : (a b : Bool) → T (a && b) → T a
+-- What two tests together pass each passes
+pub first : (a b : Bool) → T (a && b) → T a
 first true b t = tt
 first false b t = t
 
-rest : (a b : Bool) → T (a && b) → T b
+pub rest : (a b : Bool) → T (a && b) → T b
 rest true b t = t
 rest false b t = absurd t
 
