@@ -15,8 +15,8 @@ use Rattle.lines.specs.declared.number.Numbers.{Numbers}
 use Rattle.lines.specs.declared.number.Numbers.the-variants.{Count, Bad as Bad·s}
 use Rattle.lines.specs.declared.number.Word.{Word}
 use Rattle.lines.specs.declared.number.Word.the-variants.{Value, Other}
-use Rattle.lines.specs.declared.unit.Unit.{Unit}
-use Rattle.lines.specs.declared.unit.Unit.the-variants.{Stated, Bad as Bad·u}
+use Rattle.lines.specs.declared.stated.Unit.{Unit}
+use Rattle.lines.specs.declared.stated.Unit.the-variants.{Stated, Bad as Bad·u}
 use Rattle.lines.specs.declared.line.Line.{Line}
 use Rattle.lines.specs.declared.line.Taken.{Taken}
 use Rattle.lines.specs.declared.line.Taken.the-variants.{Ended, Open}

@@ -13,7 +13,7 @@ use Rattle.lines.specs.Places.{word, numberAt, countIn, leadingIn, start
 use Rattle.lines.specs.NumberLaws.{after, cut-word, cut-after, found, missed}
 use Rattle.lines.specs.declared.number.Number.the-variants.{At, Bad}
 use Rattle.lines.specs.declared.number.Numbers.the-variants.{Count, Bad as Bad·s}
-use Rattle.lines.specs.declared.unit.Unit.the-variants.{Stated, Bad as Bad·u}
+use Rattle.lines.specs.declared.stated.Unit.the-variants.{Stated, Bad as Bad·u}
 
 -- what a count tells of the words
 all-numbers : (b : Bool) (n count : ℕ) → cond b (Count n) Bad·s ≡ Count count → (b ≡ true) × (count ≡ n)

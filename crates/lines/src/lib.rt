@@ -6,7 +6,7 @@
 mod line;
 mod number;
 mod output;
-mod unit;
+mod stated;
 
 pub use line::LONGEST;
 pub use line::Line;
@@ -22,5 +22,5 @@ pub use output::put;
 pub use output::put_code;
 pub use output::put_decimal;
 pub use output::put_refused;
-pub use unit::Unit;
-pub use unit::unit_of;
+pub use stated::Unit;
+pub use stated::unit_of;

@@ -1,5 +1,6 @@
 // A request's answer, put into the output at a position. Each function says the position after it.
 use crate::road;
+use crate::road::Road;
 use code::Fields;
 use code::Reading;
 use ground::Cell;
@@ -34,7 +35,10 @@ fn answer(text: &[u8], out: &mut [u8], at: usize) -> usize {
         return answer_read(text, out, at);
     }
     if lines::starts(text, b"plain ") {
-        return road::answer(text, 6, out, at);
+        return road::answer(Road::Plain, text, 6, out, at);
+    }
+    if lines::starts(text, b"quick ") {
+        return road::answer(Road::Quick, text, 6, out, at);
     }
     if lines::starts(text, b"meets ") {
         return answer_meets(text, out, at);

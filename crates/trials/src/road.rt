@@ -1,13 +1,20 @@
-// Coding a unit by a road: the answer to `plain ROOM KIND NUMBER COORDINATE..`.
+// Coding a unit by a road: the answers to `plain ROOM KIND NUMBER COORDINATE..` and `quick ..`.
 use lines::Number;
 use lines::Unit;
+use unit::Coded;
 use unit::Kind;
+
+// The two roads.
+pub enum Road {
+    Plain,
+    Quick,
+}
 
 // More numbers than a line has: each takes a space and a digit.
 const MOST: usize = lines::LONGEST / 2;
 
 // The answer to a request whose room's size starts at a position of the text: number, place, room.
-pub(crate) fn answer(text: &[u8], start: usize, out: &mut [u8], at: usize) -> usize {
+pub(crate) fn answer(road: Road, text: &[u8], start: usize, out: &mut [u8], at: usize) -> usize {
     let size = lines::number_at(text, start);
     let Number::At(size, end) = size else {
         return lines::put(out, at, b"?");
@@ -18,11 +25,11 @@ pub(crate) fn answer(text: &[u8], start: usize, out: &mut [u8], at: usize) -> us
     if text.len() <= end {
         return lines::put(out, at, b"?");
     }
-    answer_unit(size as usize, &text[end + 1..text.len()], out, at)
+    answer_unit(road, size as usize, &text[end + 1..text.len()], out, at)
 }
 
 // Codes the unit of a text into a room of so many bytes `.`, 64 at most.
-fn answer_unit(size: usize, text: &[u8], out: &mut [u8], at: usize) -> usize {
+fn answer_unit(road: Road, size: usize, text: &[u8], out: &mut [u8], at: usize) -> usize {
     let mut numbers = [0u32; MOST];
     let unit = lines::unit_of(text, &mut numbers);
     let Unit::Stated(letter, number, count) = unit else {

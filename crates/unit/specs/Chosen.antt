@@ -14,11 +14,13 @@ use Rattle.unit.specs.declared.Choice.{Choice}
 use Rattle.unit.specs.declared.Choice.the-variants.{At, Nowhere}
 use Rattle.unit.specs.Extents.{extremesOf}
 
+-- The least west side, then the least south side
+abbrev pub Lefter : Cell → Cell → Type 0
+Lefter c d = (c .west .0 < d .west .0) ⊎ ((c .west .0 ≡ d .west .0) × (c .south .0 < d .south .0))
+
 -- The lowest level number, then the least west side, then the least south side
 abbrev pub Before : Cell → Cell → Type 0
-Before c d =
-    (c .level < d .level)
-    ⊎ ((c .level ≡ d .level) × ((c .west .0 < d .west .0) ⊎ ((c .west .0 ≡ d .west .0) × (c .south .0 < d .south .0))))
+Before c d = (c .level < d .level) ⊎ ((c .level ≡ d .level) × Lefter c d)
 
 -- The chosen cell: of the cells of levels 9 to 27 that are inside, the one that none is before
 pub record Chosen (corners : List Point) (c : Cell) : Type 0 where

@@ -1,12 +1,12 @@
--- `lines::unit::unit_of` meets its contract: a line that starts with a kind and a space states what follows them, any other nothing.
+-- `lines::stated::unit_of` meets its contract: a line that starts with a kind and a space states what follows them, any other nothing.
 -- Assumes nothing.
 use mathlib.Core.Path.{refl, sym, ap, _∙_}
 use Rattle.lines.specs.Places.{putAt}
 use Rattle.lines.specs.RoomLaws.{put-nil}
 use Rattle.lines.specs.UnitLaws.{unit-starts, coordinates-start, unit-none}
 use borrow.Author.Needs.{needs}
-use Rattle.lines.proofs.unit.unit_of.Statement.{statement}
-use Rattle.lines.proofs.unit.unit_of.Tie as tie
+use Rattle.lines.proofs.stated.unit_of.Statement.{statement}
+use Rattle.lines.proofs.stated.unit_of.Tie as tie
 
 slice-aggregate-starts : tie.Need-slice-aggregate-starts
 slice-aggregate-starts c = search needs

@@ -1,12 +1,12 @@
--- `lines::unit::unit_after` meets its contract: at each return what was found at the number and after it says what the line states.
+-- `lines::stated::unit_after` meets its contract: at each return what was found at the number and after it says what the line states.
 -- Assumes nothing.
 use mathlib.Core.Path.{sym, ap, _∙_}
 use Rattle.lines.specs.Places.{putAt}
 use Rattle.lines.specs.RoomLaws.{put-nil}
 use Rattle.lines.specs.UnitLaws.{unit-no-number, unit-no-coordinate, unit-coordinates, unit-stated}
 use borrow.Author.Needs.{needs}
-use Rattle.lines.proofs.unit.unit_after.Statement.{statement}
-use Rattle.lines.proofs.unit.unit_after.Tie as tie
+use Rattle.lines.proofs.stated.unit_after.Statement.{statement}
+use Rattle.lines.proofs.stated.unit_after.Tie as tie
 
 number-at-requires : tie.Need-number-at-requires
 number-at-requires c κs = search needs

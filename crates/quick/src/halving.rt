@@ -1,0 +1,93 @@
+// The search for the leftmost, then lowest inside cell of one level, by halving ground by latitude,
+// then by longitude, in turn. Halves that cannot hold a wanted cell are passed over.
+use crate::half::Half;
+use crate::half::corner_of;
+use crate::half::east_of;
+use crate::half::north_of;
+use crate::half::south_of;
+use crate::half::west_of;
+use crate::kept::odd_at;
+use crate::kept::part_of;
+use crate::kept::unmet;
+use ground::Cell;
+use ground::Lat;
+use ground::Lon;
+use unit::Choice;
+
+// The test for passing over: no edge meets the half, and its centre is not inside.
+fn passed_over(numbers: &[u32], room: &[u16], half: Half) -> bool {
+    !half.odd && unmet(numbers, room, half)
+}
+
+// The cell of a level that a half is, if it is inside.
+fn tried(numbers: &[u32], room: &[u16], half: Half, level: u32) -> Choice {
+    if unmet(numbers, room, half) {
+        let ground = half.ground;
+        let west = ground.west;
+        let south = ground.south;
+        return Choice::At(Cell { level, west, south });
+    }
+    Choice::Nowhere
+}
+
+// The leftmost of two cells, the first of them where both have the same west side.
+pub(crate) fn lefter(first: Choice, second: Choice) -> Choice {
+    let Choice::At(c) = first else {
+        return second;
+    };
+    let Choice::At(d) = second else {
+        return Choice::At(c);
+    };
+    let c_west = c.west;
+    let d_west = d.west;
+    if d_west.0 < c_west.0 {
+        return Choice::At(d);
+    }
+    Choice::At(c)
+}
+
+// Halves by latitude, and goes on by longitude.
+pub(crate) fn by_lat(numbers: &[u32], room: &mut [u16], half: Half, level: u32, left: u32) -> Choice {
+    if passed_over(numbers, room, half) {
+        return Choice::Nowhere;
+    }
+    if left == 0 {
+        return tried(numbers, room, half, level);
+    }
+    let ground = half.ground;
+    let south = ground.south;
+    let north = ground.north;
+    let at = ground::high_side(level - left / 2 + 1, south.0) as u32;
+    if at == north.0 {
+        return by_lon(numbers, room, half, level, left - 1);
+    }
+    let low = part_of(numbers, room, half, south_of(ground, Lat(at)), half.odd);
+    let first = by_lon(numbers, room, low, level, left - 1);
+    let above = north_of(ground, Lat(at));
+    let odd = odd_at(numbers, room, half, corner_of(above));
+    let high = part_of(numbers, room, half, above, odd);
+    lefter(first, by_lon(numbers, room, high, level, left - 1))
+}
+
+// Halves by longitude, and goes on by latitude.
+fn by_lon(numbers: &[u32], room: &mut [u16], half: Half, level: u32, left: u32) -> Choice {
+    if passed_over(numbers, room, half) {
+        return Choice::Nowhere;
+    }
+    let ground = half.ground;
+    let west = ground.west;
+    let east = ground.east;
+    let at = ground::high_side(level - left / 2, west.0) as u32;
+    if at == east.0 {
+        return by_lat(numbers, room, half, level, left - 1);
+    }
+    let low = part_of(numbers, room, half, west_of(ground, Lon(at)), half.odd);
+    let first = by_lat(numbers, room, low, level, left - 1);
+    if let Choice::At(c) = first {
+        return Choice::At(c);
+    }
+    let beyond = east_of(ground, Lon(at));
+    let odd = odd_at(numbers, room, half, corner_of(beyond));
+    let high = part_of(numbers, room, half, beyond, odd);
+    by_lat(numbers, room, high, level, left - 1)
+}

@@ -1,0 +1,41 @@
+// The quick road: coding a unit by going down a tree of halves, coarsest level first.
+mod half;
+mod halving;
+mod kept;
+mod search;
+
+ghost use mathlib.Core.Path.{_≡_};
+ghost use Rattle.unit.specs.Unit.{coding};
+ghost use Rattle.unit.specs.Frame.{leaves};
+use ground::Rectangle;
+use unit::Choice;
+use unit::Coded;
+use unit::Kind;
+
+// Codes a unit, for all inputs: writes bytes 0 to 19 of the room, or refuses and writes nothing. Its
+// cost grows with the corners, and with the ground that edges meet.
+pub fn code(room: &mut [u8], numbers: &[u32], kind: Kind, number: u32) -> Coded
+    ensures { λ a. ⌜ leaves a (now (room .exit)) ≡ coding (now (room .entry)) (now (numbers .entry)) kind number ⌝ }
+{
+    let said = unit::checks(room.len(), numbers, kind, number);
+    if unit::coded_number(said) != 0 {
+        return said;
+    }
+    let r = unit::extremes(numbers);
+    unit::finish(room, r, number, chosen(numbers, r))
+}
+
+// The chosen cell, in a room for the places of kept edges: a small one where there are few corners,
+// since making it costs as much as it holds.
+fn chosen(numbers: &[u32], r: Rectangle) -> Choice {
+    if numbers.len() / 2 <= 40 {
+        return few(numbers, r);
+    }
+    let mut places = [0u16; 38912];
+    search::chosen(numbers, &mut places, r)
+}
+
+fn few(numbers: &[u32], r: Rectangle) -> Choice {
+    let mut places = [0u16; 1520];
+    search::chosen(numbers, &mut places, r)
+}
