@@ -27,7 +27,7 @@ Each P [] = Unit {0}
 Each P (x ∷ xs) = P x × Each P xs
 
 -- The laws of "one of two"
-differ-self : (a : Bool) → differ a a ≡ false
+pub differ-self : (a : Bool) → differ a a ≡ false
 differ-self true = refl
 differ-self false = refl
 
