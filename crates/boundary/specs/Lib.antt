@@ -14,3 +14,4 @@ pub mod Insert
 pub mod Parts
 pub mod Changes
 pub mod Loops
+pub mod Keeping

@@ -4,7 +4,7 @@ use Prim.Native.Nat.{ℕ, suc, _%_}
 use native.Mathlib.Omega.{arith}
 use mathlib.Core.Path.{_≡_, refl, ap, ap₂, sym, _∙_}
 use mathlib.Core.Logic.{_≢_}
-use mathlib.Core.Bool.{Bool, true, false, cond, not, Bool·not-not}
+use mathlib.Core.Bool.{Bool, true, false, cond, not, Bool·not-not, Bool·beq}
 use mathlib.Core.List.{List, [], _∷_}
 use lib.Dec.{eqb}
 use borrow.Author.Tests.{eqb-true, eqb-false, eq-eqb, ne-eqb}
@@ -27,7 +27,7 @@ Each P [] = Unit {0}
 Each P (x ∷ xs) = P x × Each P xs
 
 -- The laws of "one of two"
-differ-self : (a : Bool) → differ a a ≡ false
+pub differ-self : (a : Bool) → differ a a ≡ false
 differ-self true = refl
 differ-self false = refl
 
@@ -61,6 +61,13 @@ chain a b c = ap (differ (differ a b)) (differ-comm b c) ∙ exchange a b c b �
     nothing : (a : Bool) → differ a false ≡ a
     nothing true = refl
     nothing false = refl
+
+-- Two tests that are not equal differ
+pub unlike : (a b : Bool) → not (Bool·beq a b) ≡ differ a b
+unlike true true = refl
+unlike true false = refl
+unlike false true = refl
+unlike false false = refl
 
 -- A point is inside when an odd number of edges cross east of it
 pub inside-odd : (p : Point) (es : List Edge) → pointInside p es ≡ oddly (crossesEast p) es

@@ -7,6 +7,7 @@ use mathlib.Core.Bool.{Bool, true, false, not, _&&_, _||_, and-true, and-false, 
 use mathlib.Core.List.{List, [], _∷_}
 use lib.Dec.{leb}
 use borrow.Author.Tests.{leb-true, leb-false, le-leb, lt-leb, lt-ltb, le-ltb}
+use Rattle.ground.specs.declared.Lon.{Lon}
 use Rattle.ground.specs.declared.Point.{Point}
 use Rattle.ground.specs.declared.Rectangle.{Rectangle}
 use Rattle.ground.specs.Levels.{lon}
@@ -34,6 +35,10 @@ low v p = leb (v .lat .0) (p .lat .0)
 -- A corner is at or beyond the east side
 abbrev beyondEast : Rectangle → Point → Bool
 beyondEast r v = leb (r .east .0) (v .lon .0)
+
+-- A corner at or beyond an east side whose latitude is at or below one of two points alone
+abbrev pub between : Lon → Point → Point → Point → Bool
+between side p q v = leb (side .0) (v .lon .0) && differ (low v p) (low v q)
 
 -- An edge that misses a rectangle crosses each latitude of it east of its points, or none; its ends between south and north tell which
 record Sided (e : Edge) (r : Rectangle) : Type 0 where
@@ -223,13 +228,9 @@ sided room e (onLeft l) = left-sided room (e .start) (e .end) l
 sided room e (onRight l) = turned (left-sided room (e .end) (e .start) l)
 
 module _ {r : Rectangle} {p q : Point} (in-p : Lies r p) (in-q : Lies r q) where
-  -- A corner beyond the east side with a latitude between those of two points
-  abbrev between : Point → Bool
-  between v = beyondEast r v && differ (low v p) (low v q)
-
-  -- It tells its side
+  -- A corner between two points of a rectangle tells its side
   between-side : (v : Point) (k : Bool) → (r .south .0 < v .lat .0 → v .lat .0 < r .north .0 → beyondEast r v ≡ k)
-      → between v ≡ (k && differ (low v p) (low v q))
+      → between (r .east) p q v ≡ (k && differ (low v p) (low v q))
   between-side v k h = case (low v p) (low v q) refl refl
     where
       case : (a b : Bool) → low v p ≡ a → low v q ≡ b → (beyondEast r v && differ a b) ≡ (k && differ a b)
@@ -245,7 +246,8 @@ module _ {r : Rectangle} {p q : Point} (in-p : Lies r p) (in-q : Lies r q) where
       case false false x y = and-false (beyondEast r v) ∙ sym (and-false k)
 
   -- An edge that misses the rectangle is counted for one of the two points where one of its ends is such
-  tells : (e : Edge) → Missed e r → differ (crossesEast p e) (crossesEast q e) ≡ differ (between (e .start)) (between (e .end))
+  pub tells : (e : Edge) → Missed e r
+      → differ (crossesEast p e) (crossesEast q e) ≡ differ (between (r .east) p q (e .start)) (between (r .east) p q (e .end))
   tells e m =
       let s : Sided e r = sided (omega arith) e m in
       ap₂ differ (s .crosses p in-p) (s .crosses q in-q)
@@ -257,7 +259,7 @@ module _ {r : Rectangle} {p q : Point} (in-p : Lies r p) (in-q : Lies r q) where
       four false a b c d = refl
 
   all-tell : (es : List Edge) → unmet r es ≡ true
-      → Each (λ (e : Edge). differ (crossesEast p e) (crossesEast q e) ≡ differ (between (e .start)) (between (e .end))) es
+      → Each (λ (e : Edge). differ (crossesEast p e) (crossesEast q e) ≡ differ (between (r .east) p q (e .start)) (between (r .east) p q (e .end))) es
   all-tell [] t = tt
   all-tell (e ∷ es) t = let ts = both (misses e r) (unmet r es) t in (tells e (missed e r (ts .0)), all-tell es (ts .1))
 
@@ -269,5 +271,5 @@ module _ {r : Rectangle} {p q : Point} (in-p : Lies r p) (in-q : Lies r q) where
       inside-odd p es
       ∙ differ-none (oddly (crossesEast p) es) (oddly (crossesEast q) es)
       (sym (odd-differ (crossesEast p) (crossesEast q) es)
-      ∙ even-around (λ (e : Edge). differ (crossesEast p e) (crossesEast q e)) between corners (all-tell es t))
+      ∙ even-around (λ (e : Edge). differ (crossesEast p e) (crossesEast q e)) (between (r .east) p q) corners (all-tell es t))
       ∙ sym (inside-odd q es)

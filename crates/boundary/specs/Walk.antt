@@ -46,7 +46,7 @@ module _ {M : Type 0} (_·_ : M → M → M) (unit : M) (g : Edge → M) where
 
   module _ (laws : Sums _·_ unit) (no-length : (a : Point) → g (edge a a) ≡ unit) where
     -- Edges of no length change no sum
-    total-with-length : (es : List Edge) → total _·_ unit g (withLength es) ≡ total _·_ unit g es
+    pub total-with-length : (es : List Edge) → total _·_ unit g (withLength es) ≡ total _·_ unit g es
     total-with-length [] = refl
     total-with-length (e ∷ es) = at (noLength e) refl (total-with-length es)
       where

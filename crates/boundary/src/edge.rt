@@ -6,6 +6,8 @@ ghost use lib.Dec.{leb};
 ghost use Rattle.boundary.specs.Boundary.{edge, left as Boundary·left, beyond as Boundary·beyond, allLeft, misses as Boundary·misses, crossesEast};
 ghost use Rattle.boundary.specs.Extreme.{extremeLat, extremeLon};
 ghost use Rattle.boundary.specs.Missing.{Ordered};
+ghost use Rattle.boundary.specs.Parity.{between as Parity·between};
+ghost use Rattle.boundary.specs.Keeping.{turns as Keeping·turns};
 use crate::left;
 use ground::Lat;
 use ground::Lon;
@@ -131,4 +133,24 @@ pub fn crosses_east(p: Point, a: Point, b: Point) -> bool
         return at.0 < b_lat.0 && left(a, b, p);
     }
     b_lat.0 <= at.0 && left(b, a, p)
+}
+
+// Whether a corner at or beyond an east side is at or below the latitude of one of two points alone.
+fn between(p: Point, q: Point, east: Lon, v: Point) -> bool
+    ensures { λ m. ⌜ m ≡ Parity·between east p q v ⌝ }
+{
+    let at = v.lon;
+    let height = v.lat;
+    let p_lat = p.lat;
+    let q_lat = q.lat;
+    east.0 <= at.0 && (height.0 <= p_lat.0) != (height.0 <= q_lat.0)
+}
+
+// Whether an edge turns the count from odd to even, or back, between two points west of an east side.
+pub fn turns(p: Point, q: Point, east: Lon, a: Point, b: Point) -> bool
+    ensures { λ m. ⌜ m ≡ Keeping·turns east p q (edge a b) ⌝ }
+{
+    let ends = between(p, q, east, a) != between(p, q, east, b);
+    let crossings = crosses_east(p, a, b) != crosses_east(q, a, b);
+    crossings != ends
 }

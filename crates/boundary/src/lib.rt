@@ -5,6 +5,7 @@ mod walk;
 
 pub use edge::crosses_east;
 pub use edge::misses;
+pub use edge::turns;
 pub use side::left;
 pub use walk::corner;
 pub use walk::inside;

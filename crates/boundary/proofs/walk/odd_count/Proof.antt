@@ -1,14 +1,14 @@
 -- `boundary::walk::odd_count` meets its contract: whether the count behind the loop is odd. Assumes nothing.
 use Prim.Native.Nat.{_-_, _/_}
-use mathlib.Core.Path.{_≡_, refl, ap, sym, _∙_}
-use mathlib.Core.Bool.{Bool, true, false, not, Bool·beq}
+use mathlib.Core.Path.{ap, sym, _∙_}
+use mathlib.Core.Bool.{false}
 use mathlib.Core.List.{List}
 use borrow.Author.Needs.{needs}
 use lib.ListN.{length}
 use Rattle.ground.specs.declared.Point.{Point}
 use Rattle.boundary.specs.Boundary.{edgesOf, crossesEast, pointInside}
 use Rattle.boundary.specs.Corners.{cornersOf}
-use Rattle.boundary.specs.Odd.{differ}
+use Rattle.boundary.specs.Odd.{differ, unlike}
 use Rattle.boundary.specs.Changes.{differ-sums}
 use Rattle.boundary.specs.Loops.{Walked, walk-begin, walk-again, walk-as, walk-end, no-corners, odd-way}
 use Rattle.boundary.proofs.walk.odd_count.Statement.{statement}
@@ -20,13 +20,6 @@ Inv-loop numbers p count first here₀ odd₀ i₀ here odd i =
 
 abbrev μ-loop : tie.MeasureT-loop
 μ-loop numbers p count first here₀ odd₀ i₀ here odd i = length numbers / 2 - i
-
--- two Bools that are not equal differ
-unlike : (a b : Bool) → not (Bool·beq a b) ≡ differ a b
-unlike true true = refl
-unlike true false = refl
-unlike false true = refl
-unlike false false = refl
 
 returns : tie.Need-returns Inv-loop μ-loop
 unfolding edgesOf
