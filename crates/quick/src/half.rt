@@ -1,4 +1,7 @@
 // A half: a rectangle of ground on the way down the tree, with what is known of the boundary in it.
+ghost use mathlib.Core.Path.{_≡_};
+ghost use Rattle.quick.specs.Kept.{southWest};
+ghost use Rattle.quick.specs.Best.{southOf, northOf, westOf, eastOf};
 use ground::Lat;
 use ground::Lon;
 use ground::Point;
@@ -14,7 +17,9 @@ pub struct Half {
 }
 
 // The south-west corner of a rectangle.
-pub(crate) fn corner_of(r: Rectangle) -> Point {
+pub(crate) fn corner_of(r: Rectangle) -> Point
+    ensures { λ p. ⌜ p ≡ southWest r ⌝ }
+{
     let west = r.west;
     let south = r.south;
     Point {
@@ -24,7 +29,9 @@ pub(crate) fn corner_of(r: Rectangle) -> Point {
 }
 
 // The part of a rectangle south of a latitude.
-pub(crate) fn south_of(r: Rectangle, at: Lat) -> Rectangle {
+pub(crate) fn south_of(r: Rectangle, at: Lat) -> Rectangle
+    ensures { λ p. ⌜ p ≡ southOf r at ⌝ }
+{
     let west = r.west;
     let east = r.east;
     let south = r.south;
@@ -37,7 +44,9 @@ pub(crate) fn south_of(r: Rectangle, at: Lat) -> Rectangle {
 }
 
 // The part north of it.
-pub(crate) fn north_of(r: Rectangle, at: Lat) -> Rectangle {
+pub(crate) fn north_of(r: Rectangle, at: Lat) -> Rectangle
+    ensures { λ p. ⌜ p ≡ northOf r at ⌝ }
+{
     let west = r.west;
     let east = r.east;
     let north = r.north;
@@ -50,7 +59,9 @@ pub(crate) fn north_of(r: Rectangle, at: Lat) -> Rectangle {
 }
 
 // The part west of a longitude.
-pub(crate) fn west_of(r: Rectangle, at: Lon) -> Rectangle {
+pub(crate) fn west_of(r: Rectangle, at: Lon) -> Rectangle
+    ensures { λ p. ⌜ p ≡ westOf r at ⌝ }
+{
     let west = r.west;
     let south = r.south;
     let north = r.north;
@@ -63,7 +74,9 @@ pub(crate) fn west_of(r: Rectangle, at: Lon) -> Rectangle {
 }
 
 // The part east of it.
-pub(crate) fn east_of(r: Rectangle, at: Lon) -> Rectangle {
+pub(crate) fn east_of(r: Rectangle, at: Lon) -> Rectangle
+    ensures { λ p. ⌜ p ≡ eastOf r at ⌝ }
+{
     let east = r.east;
     let south = r.south;
     let north = r.north;

@@ -1,8 +1,17 @@
 // The edges that are kept for a half, by their places in the boundary: an edge that misses a half
 // misses all in it, and is left out on the way down.
+ghost use Prim.Native.Nat.{_/_, _≤_, _<_};
+ghost use mathlib.Core.Path.{_≡_};
+ghost use lib.ListN.{length};
+ghost use Rattle.boundary.specs.Boundary.{edgesOf, misses, unmet as Boundary·unmet};
+ghost use Rattle.boundary.specs.Corners.{cornersOf};
+ghost use Rattle.boundary.specs.Parity.{Lies};
+ghost use Rattle.boundary.specs.Keeping.{nextPlace, edgeAt, turns};
+ghost use Rattle.quick.specs.Kept.{Same, southWest, oddAt, Placed, Sound, Part, Listed};
 use crate::half::Half;
 use crate::half::corner_of;
 use boundary::corner;
+use ground::Lon;
 use ground::Point;
 use ground::Rectangle;
 
@@ -12,47 +21,56 @@ pub struct Places {
     pub to: usize,
 }
 
-// The place after a place of a boundary: the first after the last.
-fn next(numbers: &[u32], place: usize) -> usize {
-    if place + 1 == numbers.len() / 2 { 0 } else { place + 1 }
+// The place after a place of a boundary: after the last comes the first.
+fn next(numbers: &[u32], place: u16) -> usize
+    ensures { λ r. ⌜ r ≡ nextPlace (now (numbers .entry)) place ⌝ }
+{
+    let after = place as usize + 1;
+    if after == numbers.len() / 2 { 0 } else { after }
 }
 
 // Whether the edge at a place misses a rectangle.
-fn misses_at(numbers: &[u32], place: usize, r: Rectangle) -> bool {
-    boundary::misses(corner(numbers, place), corner(numbers, next(numbers, place)), r)
-}
-
-// Whether the edge at a place turns the count between two points of a rectangle.
-fn turns_at(numbers: &[u32], place: usize, p: Point, q: Point, r: Rectangle) -> bool {
-    let a = corner(numbers, place);
+fn misses_at(numbers: &[u32], place: u16, r: Rectangle) -> bool
+    ensures { λ m. ⌜ m ≡ misses (edgeAt (now (numbers .entry)) place) r ⌝ }
+{
+    let a = corner(numbers, place as usize);
     let b = corner(numbers, next(numbers, place));
-    let e = r.east;
-    (boundary::crosses_east(p, a, b) != boundary::crosses_east(q, a, b)) != (btw(e.0, p, q, a) != btw(e.0, p, q, b))
+    boundary::misses(a, b, r)
 }
 
-fn btw(e: u32, p: Point, q: Point, v: Point) -> bool {
-    let vl = v.lon;
-    let va = v.lat;
-    let pa = p.lat;
-    let qa = q.lat;
-    e <= vl.0 && ((va.0 <= pa.0) != (va.0 <= qa.0))
+// Whether the edge at a place turns the count between two points west of an east side.
+fn turns_at(numbers: &[u32], place: u16, p: Point, q: Point, east: Lon) -> bool
+    ensures { λ m. ⌜ m ≡ turns east p q (edgeAt (now (numbers .entry)) place) ⌝ }
+{
+    let a = corner(numbers, place as usize);
+    let b = corner(numbers, next(numbers, place));
+    boundary::turns(p, q, east, a, b)
 }
 
-// The places of all edges, from the room's start.
-pub(crate) fn all(room: &mut [u16], count: usize) {
+// Puts the places of all edges at the room's start.
+pub(crate) fn list_all(numbers: &[u32], room: &mut [u16])
+    requires { ⌜ length (now numbers) / 2 ≤ length (now room) ⌝ }
+    requires { ⌜ length (now numbers) / 2 ≤ 1024 ⌝ }
+    ensures { λ _. ⌜ Listed (now (numbers .entry)) (now (room .exit)) ⌝ }
+{
+    let count = numbers.len() / 2;
     let mut i = 0;
-    while i < count && i < room.len() {
+    while i < count {
         room[i] = i as u16;
         i += 1;
     }
 }
 
-// Whether no edge meets the half.
-pub(crate) fn unmet(numbers: &[u32], room: &[u16], half: Half) -> bool {
+// Whether no edge meets a half.
+pub(crate) fn unmet(numbers: &[u32], room: &[u16], half: Half) -> bool
+    requires { ⌜ Sound (now numbers) (now room) half ⌝ }
+    ensures { λ m. ⌜ m ≡ Boundary·unmet (half .ground) (edgesOf (cornersOf (now (numbers .entry)))) ⌝ }
+{
     let ground = half.ground;
+    let to = half.to;
     let mut i = half.from;
-    while i < half.to && i < room.len() {
-        if !misses_at(numbers, room[i] as usize, ground) {
+    while i < to {
+        if !misses_at(numbers, room[i], ground) {
             return false;
         }
         i += 1;
@@ -60,28 +78,39 @@ pub(crate) fn unmet(numbers: &[u32], room: &[u16], half: Half) -> bool {
     true
 }
 
-// Whether the count is odd at another point of the half.
-pub(crate) fn odd_at(numbers: &[u32], room: &[u16], half: Half, q: Point) -> bool {
+// Whether the count is odd at another point of a half.
+pub(crate) fn odd_at(numbers: &[u32], room: &[u16], half: Half, q: Point) -> bool
+    requires { ⌜ Sound (now numbers) (now room) half ⌝ }
+    requires { ⌜ Lies (half .ground) q ⌝ }
+    ensures { λ m. ⌜ m ≡ oddAt (now (numbers .entry)) q ⌝ }
+{
     let ground = half.ground;
+    let east = ground.east;
     let p = corner_of(ground);
+    let to = half.to;
     let mut odd = half.odd;
     let mut i = half.from;
-    while i < half.to && i < room.len() {
-        odd = odd != turns_at(numbers, room[i] as usize, p, q, ground);
+    while i < to {
+        odd = odd != turns_at(numbers, room[i], p, q, east);
         i += 1;
     }
     odd
 }
 
 // Those of a half's edges that meet a part of it, put behind them; all of them where the room ends.
-fn keep(numbers: &[u32], room: &mut [u16], half: Half, part: Rectangle) -> Places {
+fn keep(numbers: &[u32], room: &mut [u16], half: Half, part: Rectangle) -> Places
+    requires { ⌜ Sound (now numbers) (now room) half ⌝ }
+    requires { ⌜ Part half part ⌝ }
+    ensures { λ p. ⌜ Placed (now (numbers .entry)) (now (room .exit)) part (p .from) (p .to) ⌝ }
+    ensures { λ p. ⌜ (half .to ≤ p .to) × Same (half .to) (now (room .entry)) (now (room .exit)) ⌝ }
+{
     let from = half.from;
     let to = half.to;
     let mut end = to;
     let mut i = from;
-    while i < to && i < room.len() {
+    while i < to {
         let place = room[i];
-        if !misses_at(numbers, place as usize, part) {
+        if !misses_at(numbers, place, part) {
             if room.len() <= end {
                 return Places { from, to };
             }
@@ -96,8 +125,14 @@ fn keep(numbers: &[u32], room: &mut [u16], half: Half, part: Rectangle) -> Place
     }
 }
 
-// A part of a half, with its edges.
-pub(crate) fn part_of(numbers: &[u32], room: &mut [u16], half: Half, part: Rectangle, odd: bool) -> Half {
+// A part of a half, with its edges and the count at its south-west corner.
+pub(crate) fn part_of(numbers: &[u32], room: &mut [u16], half: Half, part: Rectangle, odd: bool) -> Half
+    requires { ⌜ Sound (now numbers) (now room) half ⌝ }
+    requires { ⌜ Part half part ⌝ }
+    requires { ⌜ odd ≡ oddAt (now numbers) (southWest part) ⌝ }
+    ensures { λ h. ⌜ (h .ground ≡ part) × Sound (now (numbers .entry)) (now (room .exit)) h ⌝ }
+    ensures { λ h. ⌜ (half .to ≤ h .to) × Same (half .to) (now (room .entry)) (now (room .exit)) ⌝ }
+{
     let places = keep(numbers, room, half, part);
     Half {
         ground: part,

@@ -4,7 +4,7 @@ use crate::half::Half;
 use crate::half::corner_of;
 use crate::halving::by_lat;
 use crate::halving::lefter;
-use crate::kept;
+use crate::kept::list_all;
 use ground::Lat;
 use ground::Lon;
 use ground::Rectangle;
@@ -93,7 +93,7 @@ fn in_level(numbers: &[u32], room: &mut [u16], r: Rectangle, level: u32) -> Choi
 
 // The chosen cell: levels up to 27 in turn.
 pub(crate) fn chosen(numbers: &[u32], room: &mut [u16], r: Rectangle) -> Choice {
-    kept::all(room, numbers.len() / 2);
+    list_all(numbers, room);
     let mut level = first_level(r);
     while level < 28 {
         let found = in_level(numbers, room, r, level);
