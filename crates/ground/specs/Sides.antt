@@ -128,3 +128,7 @@ module _ (level : ℕ) (coarsest : 9 ≤ level) (finest : level ≤ 27) where
     where
       by : (q : ℕ) → n * degree ≡ q * afresh level → lowSide level (n * degree) ≡ n * degree
       by q e = told-side q 0 (record { sum = omega arith; rest = some-size; since = omega (arith, some-afresh) })
+
+  -- A cell that starts before an end ends at or before a whole number of degrees that the end does not pass
+  pub side-end : {a end : ℕ} (n : ℕ) → lowSide level a ≡ a → a < end → end ≤ n * degree → highSide level a ≤ n * degree
+  side-end {a} n is less most = none-between a (n * degree) is (degrees-low n) (omega arith)

@@ -1,32 +1,25 @@
 -- What the plain road tries: a cell of its search is a cell of levels 9 to 27 within the range, so that the test of the boundary is what document 01
 -- says of it ("The cell inside"). Assumes nothing.
-use Prim.Native.Nat.{ℕ, _*_, _≤_, _<_}
-use native.Mathlib.Omega.{arith}
+use Prim.Native.Nat.{ℕ, _≤_, _<_}
 use mathlib.Core.Path.{_≡_, sym, ap, subst, _∙_}
 use mathlib.Core.Bool.{Bool, cond, _&&_}
 use mathlib.Core.List.{List}
 use Rattle.ground.specs.declared.Point.{Point}
 use Rattle.ground.specs.declared.Rectangle.{Rectangle}
 use Rattle.ground.specs.declared.Cell.{Cell}
-use Rattle.ground.specs.Levels.{lat, lon, degree, latEnd, lonEnd}
-use Rattle.ground.specs.Cells.{lowSide, highSide, sidesOf, IsCell}
+use Rattle.ground.specs.Levels.{lat, lon, latEnd}
+use Rattle.ground.specs.Cells.{lowSide, sidesOf, IsCell}
 use Rattle.ground.specs.CellTest.{isCell, is-cell}
-use Rattle.ground.specs.Sides.{none-between, degrees-low}
+use Rattle.ground.specs.Sides.{side-end}
 use Rattle.boundary.specs.Boundary.{inside}
 use Rattle.unit.specs.declared.Choice.{Choice}
 use Rattle.unit.specs.declared.Choice.the-variants.{At, Nowhere}
-use Rattle.unit.specs.Extents.{extremesOf}
-use Rattle.unit.specs.Choosing.{InRange, range-ends}
+use Rattle.unit.specs.Choosing.{Over}
 use Rattle.unit.specs.Chosen.{sidesOver, firstAmong, trySouth, tryWest, tryLevel}
-use Rattle.plain.specs.Asked.{Over, Level, West}
+use Rattle.plain.specs.Asked.{Level, West}
 use Rattle.plain.specs.Turns.{SidesLeft, sides-begin}
 
--- A cell that starts before the end of an extent within the range ends within the range: at or before a whole number of degrees
-pub side-end : {level a end : ℕ} (n : ℕ) → Level level → lowSide level a ≡ a → a < end → end ≤ n * degree → highSide level a ≤ n * degree
-side-end {level} {a} n l is less most =
-    none-between level (l .coarsest) (l .finest) a (n * degree) is (degrees-low level (l .coarsest) (l .finest) n) (omega arith)
-
--- so that what is tried is a cell
+-- What is tried is a cell
 tried-cell : {level west south end : ℕ} → Level level → West level west → lowSide level south ≡ south → south < end → end ≤ latEnd
     → IsCell (record { level = level; west = lon west; south = lat south })
 unfolding sidesOf
@@ -37,7 +30,7 @@ tried-cell l w is less most =
       west = w .is;
       south = is;
       east-end = w .end;
-      north-end = side-end 90 l is less most;
+      north-end = side-end _ (l .coarsest) (l .finest) 90 is less most;
     }
 
 -- and what the boundary says of it tells what trying gives
@@ -72,12 +65,3 @@ module _ {corners : List Point} {r : Rectangle} (o : Over corners r) {level a : 
       (subst (SidesLeft (tryWest corners level) level (r .east .0)
       (firstAmong (tryWest corners level) (sidesOver level (r .west .0) (r .east .0)))) (sym e)
       (sides-begin l (r .west .0) (r .east .0)))
-
--- The extremes of corners within the range are what the search asks for
-pub over-range : {corners : List Point} {r : Rectangle} → r ≡ extremesOf corners → InRange corners → Over corners r
-over-range {corners} {r} e range =
-    record {
-      own = e;
-      east-end = subst (λ (x : Rectangle). x .east .0 ≤ lonEnd) (sym e) (range-ends corners range .0);
-      north-end = subst (λ (x : Rectangle). x .north .0 ≤ latEnd) (sym e) (range-ends corners range .1);
-    }

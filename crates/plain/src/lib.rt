@@ -6,7 +6,7 @@ ghost use Rattle.boundary.specs.Corners.{cornersOf};
 ghost use Rattle.unit.specs.Chosen.{choose};
 ghost use Rattle.unit.specs.Unit.{coding};
 ghost use Rattle.unit.specs.Frame.{leaves};
-ghost use Rattle.plain.specs.Asked.{Over};
+ghost use Rattle.unit.specs.Choosing.{Over};
 use ground::Rectangle;
 use unit::Choice;
 use unit::Coded;

@@ -3,7 +3,8 @@
 ghost use mathlib.Core.Path.{_≡_};
 ghost use Rattle.boundary.specs.Corners.{cornersOf};
 ghost use Rattle.unit.specs.Chosen.{tryWest, tryLevel};
-ghost use Rattle.plain.specs.Asked.{Over, Level, West};
+ghost use Rattle.unit.specs.Choosing.{Over};
+ghost use Rattle.plain.specs.Asked.{Level, West};
 use ground::Cell;
 use ground::Lat;
 use ground::Lon;

@@ -97,34 +97,113 @@ module _ {corners : List Point} {level : ℕ} where
       (wanted-within h (b .0), λ d w. b .1 d (record { cell = w .cell; of = w .of; is = w .is; lies = all d w }))
   best-all Nowhere h all b = λ d w. b d (record { cell = w .cell; of = w .of; is = w .is; lies = all d w })
 
-  module _ (coarsest : 9 ≤ level) (finest : level ≤ 27) (r : Rectangle) where
-    module _ (at : Lat) (is : lowSide level (at .0) ≡ at .0) where
-      -- A wanted cell is south or north of a latitude that is a low side of its level
-      lat-wanted : (d : Cell) → Wanted corners level r d → (Wanted corners level (southOf r at) d) ⊎ (Wanted corners level (northOf r at) d)
-      unfolding sidesOf
-      lat-wanted d w = by (split level (at .0) (d .south .0) coarsest finest is low)
-        where
-          low : lowSide level (d .south .0) ≡ d .south .0
-          low = subst (λ (n : ℕ). lowSide n (d .south .0) ≡ d .south .0) (w .of) (w .cell .south)
+module _ (corners : List Point) (level : ℕ) (coarsest : 9 ≤ level) (finest : level ≤ 27) (r : Rectangle) where
+  -- A wanted cell is south or north of a latitude that is a low side of its level
+  lat-parts : (at : Lat) → lowSide level (at .0) ≡ at .0 → (d : Cell) → Wanted corners level r d
+      → (Wanted corners level (southOf r at) d) ⊎ (Wanted corners level (northOf r at) d)
+  unfolding sidesOf
+  lat-parts at is d w = by (split level (at .0) (d .south .0) coarsest finest is (subst (λ (n : ℕ). lowSide n (d .south .0) ≡ d .south .0) (w .of) (w .cell .south)))
+    where
+      by : (highSide level (d .south .0) ≤ at .0) ⊎ (at .0 ≤ d .south .0)
+          → (Wanted corners level (southOf r at) d) ⊎ (Wanted corners level (northOf r at) d)
+      by (inl h) =
+          let ends : highSide (d .level) (d .south .0) ≤ at .0 = subst (λ (n : ℕ). highSide n (d .south .0) ≤ at .0) (sym (w .of)) h in
+          inl (record {
+            cell = w .cell;
+            of = w .of;
+            is = w .is;
+            lies = record { west = w .lies .west; east = w .lies .east; south = w .lies .south; north = ends };
+          })
+      by (inr h) =
+          inr (record {
+            cell = w .cell;
+            of = w .of;
+            is = w .is;
+            lies = record { west = w .lies .west; east = w .lies .east; south = h; north = w .lies .north };
+          })
 
-          by : (highSide level (d .south .0) ≤ at .0) ⊎ (at .0 ≤ d .south .0)
-              → (Wanted corners level (southOf r at) d) ⊎ (Wanted corners level (northOf r at) d)
-          by (inl h) =
-              inl (record {
-                cell = w .cell;
-                of = w .of;
-                is = w .is;
-                lies = record {
-                  west = w .lies .west;
-                  east = w .lies .east;
-                  south = w .lies .south;
-                  north = subst (λ (n : ℕ). highSide n (d .south .0) ≤ at .0) (sym (w .of)) h;
-                };
-              })
-          by (inr h) =
-              inr (record {
-                cell = w .cell;
-                of = w .of;
-                is = w .is;
-                lies = record { west = w .lies .west; east = w .lies .east; south = h; north = w .lies .north };
-              })
+  -- and west or east of such a longitude
+  lon-parts : (at : Lon) → lowSide level (at .0) ≡ at .0 → (d : Cell) → Wanted corners level r d
+      → (Wanted corners level (westOf r at) d) ⊎ (Wanted corners level (eastOf r at) d)
+  unfolding sidesOf
+  lon-parts at is d w = by (split level (at .0) (d .west .0) coarsest finest is (subst (λ (n : ℕ). lowSide n (d .west .0) ≡ d .west .0) (w .of) (w .cell .west)))
+    where
+      by : (highSide level (d .west .0) ≤ at .0) ⊎ (at .0 ≤ d .west .0)
+          → (Wanted corners level (westOf r at) d) ⊎ (Wanted corners level (eastOf r at) d)
+      by (inl h) =
+          let ends : highSide (d .level) (d .west .0) ≤ at .0 = subst (λ (n : ℕ). highSide n (d .west .0) ≤ at .0) (sym (w .of)) h in
+          inl (record {
+            cell = w .cell;
+            of = w .of;
+            is = w .is;
+            lies = record { west = w .lies .west; east = ends; south = w .lies .south; north = w .lies .north };
+          })
+      by (inr h) =
+          inr (record {
+            cell = w .cell;
+            of = w .of;
+            is = w .is;
+            lies = record { west = h; east = w .lies .east; south = w .lies .south; north = w .lies .north };
+          })
+
+  -- So the leftmost of the answers south and north of a latitude is the answer for the whole
+  pub best-lat : (at : Lat) → lowSide level (at .0) ≡ at .0 → r .south .0 ≤ at .0 → at .0 ≤ r .north .0 → (a b : Choice)
+      → Best corners level (southOf r at) a → Best corners level (northOf r at) b → Best corners level r (lefter a b)
+  unfolding sidesOf
+  best-lat at is low high Nowhere Nowhere s n = λ d w. neither d (lat-parts at is d w)
+    where
+      neither : (d : Cell) → (Wanted corners level (southOf r at) d) ⊎ (Wanted corners level (northOf r at) d) → ⊥
+      neither d (inl w) = s d w
+      neither d (inr w) = n d w
+  best-lat at is low high Nowhere (At c) s n = (wanted-within (omega arith) (n .0), λ d w l. by d l (lat-parts at is d w))
+    where
+      by : (d : Cell) → Lefter d c → (Wanted corners level (southOf r at) d) ⊎ (Wanted corners level (northOf r at) d) → ⊥
+      by d l (inl w) = s d w
+      by d l (inr w) = n .1 d w l
+  best-lat at is low high (At c) Nowhere s n = (wanted-within (omega arith) (s .0), λ d w l. by d l (lat-parts at is d w))
+    where
+      by : (d : Cell) → Lefter d c → (Wanted corners level (southOf r at) d) ⊎ (Wanted corners level (northOf r at) d) → ⊥
+      by d l (inl w) = s .1 d w l
+      by d l (inr w) = n d w
+  best-lat at is low high (At c) (At d) s n = choose (ltb (d .west .0) (c .west .0)) refl
+    where
+      choose : (t : Bool) → ltb (d .west .0) (c .west .0) ≡ t → Best corners level r (cond t (At d) (At c))
+      choose true e = (wanted-within (omega arith) (n .0), λ x w l. by x l (lat-parts at is x w))
+        where
+          by : (x : Cell) → Lefter x d → (Wanted corners level (southOf r at) x) ⊎ (Wanted corners level (northOf r at) x) → ⊥
+          by x l (inl w) = s .1 x w (further l)
+            where
+              further : Lefter x d → Lefter x c
+              further (inl h) = inl (omega (arith, ltb-true (d .west .0) (c .west .0) e))
+              further (inr (h, k)) = inl (omega (arith, ltb-true (d .west .0) (c .west .0) e))
+          by x l (inr w) = n .1 x w l
+      choose false e = (wanted-within (omega arith) (s .0), λ x w l. by x l (lat-parts at is x w))
+        where
+          by : (x : Cell) → Lefter x c → (Wanted corners level (southOf r at) x) ⊎ (Wanted corners level (northOf r at) x) → ⊥
+          by x l (inl w) = s .1 x w l
+          by x (inl h) (inr w) = n .1 x w (inl (omega (arith, ltb-false (d .west .0) (c .west .0) e)))
+          by x (inr (h, k)) (inr w) =
+              omega (arith, cell-room c (s .0 .cell) .up, s .0 .lies .north, w .lies .south)
+
+  -- and the answer west of a longitude, or else the one east of it
+  pub best-lon : (at : Lon) → lowSide level (at .0) ≡ at .0 → r .west .0 ≤ at .0 → at .0 ≤ r .east .0 → (a b : Choice)
+      → Best corners level (westOf r at) a → (a ≡ Nowhere → Best corners level (eastOf r at) b)
+      → Best corners level r (orElse a (λ _. b))
+  unfolding sidesOf
+  best-lon at is low high (At c) b s n = (wanted-within (omega arith) (s .0), λ d w l. by d l (lon-parts at is d w))
+    where
+      by : (d : Cell) → Lefter d c → (Wanted corners level (westOf r at) d) ⊎ (Wanted corners level (eastOf r at) d) → ⊥
+      by d l (inl w) = s .1 d w l
+      by d (inl h) (inr w) = omega (arith, cell-room c (s .0 .cell) .across, s .0 .lies .east, w .lies .west)
+      by d (inr (h, k)) (inr w) = omega (arith, cell-room c (s .0 .cell) .across, s .0 .lies .east, w .lies .west)
+  best-lon at is low high Nowhere (At c) s n =
+      (wanted-within (omega arith) (n refl .0), λ d w l. by d l (lon-parts at is d w))
+    where
+      by : (d : Cell) → Lefter d c → (Wanted corners level (westOf r at) d) ⊎ (Wanted corners level (eastOf r at) d) → ⊥
+      by d l (inl w) = s d w
+      by d l (inr w) = n refl .1 d w l
+  best-lon at is low high Nowhere Nowhere s n = λ d w. by d (lon-parts at is d w)
+    where
+      by : (d : Cell) → (Wanted corners level (westOf r at) d) ⊎ (Wanted corners level (eastOf r at) d) → ⊥
+      by d (inl w) = s d w
+      by d (inr w) = n refl d w

@@ -1,5 +1,10 @@
 // The search for the leftmost, then lowest inside cell of one level, by halving ground by latitude,
 // then by longitude, in turn. Halves that cannot hold a wanted cell are passed over.
+ghost use mathlib.Core.Path.{_≡_};
+ghost use Rattle.boundary.specs.Corners.{cornersOf};
+ghost use Rattle.quick.specs.Kept.{Same, Sound};
+ghost use Rattle.quick.specs.Best.{Best, lefter as Best·lefter, passesOver};
+ghost use Rattle.quick.specs.Asked.{ByLat, ByLon};
 use crate::half::Half;
 use crate::half::corner_of;
 use crate::half::east_of;
@@ -14,14 +19,22 @@ use ground::Lat;
 use ground::Lon;
 use unit::Choice;
 
-// The test for passing over: no edge meets the half, and its centre is not inside.
-fn passed_over(numbers: &[u32], room: &[u16], half: Half) -> bool {
+// The test for passing over: no edge meets the half, and its centre is not inside, where the count is
+// what it is at the south-west corner.
+fn passed_over(numbers: &[u32], room: &[u16], half: Half) -> bool
+    requires { ⌜ Sound (now numbers) (now room) half ⌝ }
+    ensures { λ p. ⌜ p ≡ passesOver (cornersOf (now (numbers .entry))) (half .ground) ⌝ }
+{
     !half.odd && unmet(numbers, room, half)
 }
 
 // The cell of a level that a half is, if it is inside.
-fn tried(numbers: &[u32], room: &[u16], half: Half, level: u32) -> Choice {
-    if unmet(numbers, room, half) {
+fn tried(numbers: &[u32], room: &[u16], half: Half, level: u32) -> Choice
+    requires { ⌜ Sound (now numbers) (now room) half ⌝ }
+    requires { ⌜ ByLat level 0 (half .ground) ⌝ }
+    ensures { λ c. ⌜ Best (cornersOf (now (numbers .entry))) level (half .ground) c ⌝ }
+{
+    if half.odd && unmet(numbers, room, half) {
         let ground = half.ground;
         let west = ground.west;
         let south = ground.south;
@@ -31,7 +44,9 @@ fn tried(numbers: &[u32], room: &[u16], half: Half, level: u32) -> Choice {
 }
 
 // The leftmost of two cells, the first of them where both have the same west side.
-pub(crate) fn lefter(first: Choice, second: Choice) -> Choice {
+pub(crate) fn lefter(first: Choice, second: Choice) -> Choice
+    ensures { λ c. ⌜ c ≡ Best·lefter first second ⌝ }
+{
     let Choice::At(c) = first else {
         return second;
     };
@@ -47,7 +62,12 @@ pub(crate) fn lefter(first: Choice, second: Choice) -> Choice {
 }
 
 // Halves by latitude, and goes on by longitude.
-pub(crate) fn by_lat(numbers: &[u32], room: &mut [u16], half: Half, level: u32, left: u32) -> Choice {
+pub(crate) fn by_lat(numbers: &[u32], room: &mut [u16], half: Half, level: u32, left: u32) -> Choice
+    requires { ⌜ Sound (now numbers) (now room) half ⌝ }
+    requires { ⌜ ByLat level left (half .ground) ⌝ }
+    ensures { λ c. ⌜ Best (cornersOf (now (numbers .entry))) level (half .ground) c ⌝ }
+    ensures { λ _. ⌜ Same (half .to) (now (room .entry)) (now (room .exit)) ⌝ }
+{
     if passed_over(numbers, room, half) {
         return Choice::Nowhere;
     }
@@ -70,7 +90,12 @@ pub(crate) fn by_lat(numbers: &[u32], room: &mut [u16], half: Half, level: u32, 
 }
 
 // Halves by longitude, and goes on by latitude.
-fn by_lon(numbers: &[u32], room: &mut [u16], half: Half, level: u32, left: u32) -> Choice {
+fn by_lon(numbers: &[u32], room: &mut [u16], half: Half, level: u32, left: u32) -> Choice
+    requires { ⌜ Sound (now numbers) (now room) half ⌝ }
+    requires { ⌜ ByLon level left (half .ground) ⌝ }
+    ensures { λ c. ⌜ Best (cornersOf (now (numbers .entry))) level (half .ground) c ⌝ }
+    ensures { λ _. ⌜ Same (half .to) (now (room .entry)) (now (room .exit)) ⌝ }
+{
     if passed_over(numbers, room, half) {
         return Choice::Nowhere;
     }

@@ -4,7 +4,12 @@ mod halving;
 mod kept;
 mod search;
 
+ghost use Prim.Native.Nat.{_/_, _≤_};
 ghost use mathlib.Core.Path.{_≡_};
+ghost use lib.ListN.{length};
+ghost use Rattle.boundary.specs.Corners.{cornersOf};
+ghost use Rattle.unit.specs.Chosen.{choose};
+ghost use Rattle.unit.specs.Choosing.{InRange, Over};
 ghost use Rattle.unit.specs.Unit.{coding};
 ghost use Rattle.unit.specs.Frame.{leaves};
 use ground::Rectangle;
@@ -27,7 +32,12 @@ pub fn code(room: &mut [u8], numbers: &[u32], kind: Kind, number: u32) -> Coded
 
 // The chosen cell, in a room for the places of kept edges: a small one where there are few corners,
 // since making it costs as much as it holds.
-fn chosen(numbers: &[u32], r: Rectangle) -> Choice {
+fn chosen(numbers: &[u32], r: Rectangle) -> Choice
+    requires { ⌜ length (now numbers) / 2 ≤ 1024 ⌝ }
+    requires { ⌜ Over (cornersOf (now numbers)) r ⌝ }
+    requires { ⌜ InRange (cornersOf (now numbers)) ⌝ }
+    ensures { λ c. ⌜ c ≡ choose (cornersOf (now (numbers .entry))) ⌝ }
+{
     if numbers.len() / 2 <= 40 {
         return few(numbers, r);
     }
@@ -35,7 +45,13 @@ fn chosen(numbers: &[u32], r: Rectangle) -> Choice {
     search::chosen(numbers, &mut places, r)
 }
 
-fn few(numbers: &[u32], r: Rectangle) -> Choice {
+// The same for at most 40 corners.
+fn few(numbers: &[u32], r: Rectangle) -> Choice
+    requires { ⌜ length (now numbers) / 2 ≤ 40 ⌝ }
+    requires { ⌜ Over (cornersOf (now numbers)) r ⌝ }
+    requires { ⌜ InRange (cornersOf (now numbers)) ⌝ }
+    ensures { λ c. ⌜ c ≡ choose (cornersOf (now (numbers .entry))) ⌝ }
+{
     let mut places = [0u16; 1520];
     search::chosen(numbers, &mut places, r)
 }

@@ -13,12 +13,13 @@ use borrow.Author.Tests.{ltb-true, ltb-false, le-ltb}
 use Rattle.replies.specs.Places.{firstPlace}
 use Rattle.replies.specs.Tests.{neither}
 use Rattle.ground.specs.declared.Point.{Point}
+use Rattle.ground.specs.declared.Rectangle.{Rectangle}
 use Rattle.ground.specs.declared.Cell.{Cell}
 use Rattle.ground.specs.Levels.{lat, lon, degree, latEnd, lonEnd}
 use Rattle.ground.specs.Cells.{lowSide, highSide, sidesOf, IsCell}
 use Rattle.ground.specs.CellTest.{low-below-high}
 use Rattle.ground.specs.CellLaws.{sides-32}
-use Rattle.ground.specs.Sides.{low-most, low-low, below-high, high-low, none-between, degrees-low}
+use Rattle.ground.specs.Sides.{low-most, low-low, below-high, high-low, none-between, side-end}
 use Rattle.boundary.specs.Boundary.{inside}
 use Rattle.boundary.specs.Products.{either-way}
 use Rattle.boundary.specs.Odd.{Each}
@@ -184,7 +185,7 @@ module _ (level : ℕ) (coarsest : 9 ≤ level) (finest : level ≤ 27) where
   over-end from to n a most m =
       let h : Side level (lowSide level from) to a =
       each-in (Side level (lowSide level from) to) (sidesOver level from to) a (over-sides from to) m in
-      (h .is, none-between level coarsest finest a (n * degree) (h .is) (degrees-low level coarsest finest n) (omega (arith, h .below)))
+      (h .is, side-end level coarsest finest n (h .is) (h .below) most)
 
 -- Trying a list of numbers gives a cell: one of them gives it, and every lesser one gives none
 pub record Found (try : ℕ → Choice) (xs : List ℕ) (c : Cell) : Type 0 where
@@ -310,6 +311,21 @@ greatest-most f m (v ∷ vs) t = greatest-from-most f m (f v) vs (t .0) (t .1)
 pub range-ends : (corners : List Point) → InRange corners → (extremesOf corners .east .0 ≤ lonEnd) × (extremesOf corners .north .0 ≤ latEnd)
 unfolding extremesOf
 range-ends corners range = (greatest-most (λ p. p .lon .0) lonEnd corners (range .lon), greatest-most (λ p. p .lat .0) latEnd corners (range .lat))
+
+-- What a search is told of the ground: the unit's own extremes, which end within the range
+pub record Over (corners : List Point) (r : Rectangle) : Type 0 where
+  pub own : r ≡ extremesOf corners
+  pub east-end : r .east .0 ≤ lonEnd
+  pub north-end : r .north .0 ≤ latEnd
+
+-- Such are the extremes of corners within the range
+pub over-range : {corners : List Point} {r : Rectangle} → r ≡ extremesOf corners → InRange corners → Over corners r
+over-range {corners} {r} e range =
+    record {
+      own = e;
+      east-end = subst (λ (x : Rectangle). x .east .0 ≤ lonEnd) (sym e) (range-ends corners range .0);
+      north-end = subst (λ (x : Rectangle). x .north .0 ≤ latEnd) (sym e) (range-ends corners range .1);
+    }
 
 module _ (corners : List Point) where
   -- The computation tries the levels 9 to 27

@@ -4,7 +4,7 @@ use borrow.Author.Needs.{needs}
 use Rattle.boundary.specs.Corners.{cornersOf}
 use Rattle.unit.specs.Frame.{says}
 use Rattle.unit.specs.Framing.{road-refused, road-range, road-ends}
-use Rattle.plain.specs.Trying.{over-range}
+use Rattle.unit.specs.Choosing.{over-range}
 use Rattle.plain.proofs.code.Statement.{statement}
 use Rattle.plain.proofs.code.Tie as tie
 

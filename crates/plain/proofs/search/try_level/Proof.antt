@@ -6,10 +6,11 @@ use borrow.Author.Needs.{needs}
 use Rattle.ground.specs.Levels.{lonEnd}
 use Rattle.ground.specs.Cells.{highSide}
 use Rattle.ground.specs.CellTest.{low-below-high}
+use Rattle.ground.specs.Sides.{side-end}
 use Rattle.boundary.specs.Corners.{cornersOf}
 use Rattle.unit.specs.Chosen.{tryWest, tryLevel}
 use Rattle.plain.specs.Turns.{SidesLeft, sides-found, sides-again, sides-end}
-use Rattle.plain.specs.Trying.{side-end, wests-begin}
+use Rattle.plain.specs.Trying.{wests-begin}
 use Rattle.plain.proofs.search.try_level.Statement.{statement}
 use Rattle.plain.proofs.search.try_level.Tie as tie
 
@@ -26,7 +27,7 @@ ends : (c : tie.Then1 Inv-loop μ-loop)
 ends c =
     let loop = c .before .before in
     let start = loop .before .before .before .before .before in
-    side-end 180 (start .pre .1) (loop .loop .inv .is) (c .if1 .taken) (start .pre .0 .east-end)
+    side-end (start .args .level) (start .pre .1 .coarsest) (start .pre .1 .finest) 180 (loop .loop .inv .is) (c .if1 .taken) (start .pre .0 .east-end)
 
 low-side-requires : tie.Need-low-side-requires Inv-loop μ-loop
 low-side-requires c κs = search needs

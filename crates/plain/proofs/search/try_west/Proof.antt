@@ -8,11 +8,12 @@ use Rattle.ground.specs.declared.Point.{Point}
 use Rattle.ground.specs.Levels.{latEnd}
 use Rattle.ground.specs.Cells.{lowSide, highSide}
 use Rattle.ground.specs.CellTest.{low-below-high}
+use Rattle.ground.specs.Sides.{side-end}
 use Rattle.boundary.specs.Corners.{cornersOf}
 use Rattle.unit.specs.Extents.{extremesOf}
 use Rattle.unit.specs.Chosen.{trySouth, tryWest}
 use Rattle.plain.specs.Turns.{SidesLeft, sides-found, sides-again, sides-end}
-use Rattle.plain.specs.Trying.{side-end, south-tried, souths-begin}
+use Rattle.plain.specs.Trying.{south-tried, souths-begin}
 use Rattle.plain.proofs.search.try_west.Statement.{statement}
 use Rattle.plain.proofs.search.try_west.Tie as tie
 
@@ -31,7 +32,7 @@ next c =
     let loop = c .before .before .before .before .before in
     let start = loop .before .before .before .before .before in
     let l = start .pre .1 .0 in
-    let most = side-end 90 l (loop .loop .inv .is) (c .before .before .before .if1 .taken) (start .pre .0 .north-end) in
+    let most = side-end (start .args .level) (l .coarsest) (l .finest) 90 (loop .loop .inv .is) (c .before .before .before .if1 .taken) (start .pre .0 .north-end) in
     (c .high-side .ensures, subst (λ (n : ℕ). n ≤ latEnd) (sym (c .high-side .ensures)) most)
 
 low-side-requires : tie.Need-low-side-requires Inv-loop μ-loop
