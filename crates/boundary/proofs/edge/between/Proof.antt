@@ -1,4 +1,5 @@
 -- `boundary::edge::between` meets its contract: the latitudes decide where the corner is at or beyond the east side. Assumes nothing.
+use native.Mathlib.Omega.{arith}
 use borrow.Author.Tests.{le-leb, lt-leb}
 use Rattle.boundary.specs.Odd.{unlike}
 use Rattle.boundary.specs.Parity.{low}
@@ -9,10 +10,12 @@ returns : tie.Need-returns
 returns c =
     let beyond = c .before .before .before .before in
     let a = beyond .before .before .before .before .before .before .before .args in
-    rw (le-leb _ _ (beyond .if1 .taken)) (unlike (low (a .v) (a .p)) (low (a .v) (a .q)))
+    rw (le-leb (a .east .0) (a .v .lon .0) (omega (arith, beyond .if1 .taken))) (unlike (low (a .v) (a .p)) (low (a .v) (a .q)))
 
 returns-2 : tie.Need-returns-2
-returns-2 c = rw (lt-leb _ _ (c .if1 .left))
+returns-2 c =
+    let a = c .before .before .before .before .before .before .before .args in
+    rw (lt-leb (a .east .0) (a .v .lon .0) (omega (arith, c .if1 .left)))
 
 pub between-spec : {M : Type 1} → statement M
 between-spec = tie.close (tie.spec returns returns-2)
