@@ -1,7 +1,7 @@
 -- What the searches within this crate ask of their callers, and what they tell of a level. Assumes nothing.
-use Prim.Native.Nat.{ℕ, _+_, _-_, _*_, _/_, _%_, _≤_}
+use Prim.Native.Nat.{ℕ, _+_, _-_, _*_, _/_, _%_, _≤_, _<_}
 use mathlib.Core.Path.{_≡_}
-use mathlib.Core.Bool.{Bool, _||_}
+use mathlib.Core.Bool.{Bool, true, _||_}
 use lib.Dec.{ltb}
 use Rattle.ground.specs.declared.Lon.{Lon}
 use Rattle.ground.specs.declared.Rectangle.{Rectangle}
@@ -58,3 +58,7 @@ everywhere = column (lon 0) (lon lonEnd)
 abbrev pub tooWide : Rectangle → ℕ → Bool
 tooWide r level =
     ltb (2 * distance (r .west .0) (r .east .0)) (sizeOf level) || ltb (2 * distance (r .south .0) (r .north .0)) (sizeOf level)
+
+-- and so for each level before one
+abbrev pub UnfitBefore : Rectangle → ℕ → Type 0
+UnfitBefore r level = (n : ℕ) → n < level → 9 ≤ n → tooWide r n ≡ true

@@ -1,8 +1,7 @@
 // The search for the chosen cell: the levels in turn whose cells can fit the extents, and for each of
 // them the halves of the few cells of a coarser level that lie over the extents.
-ghost use Prim.Native.Nat.{ℕ, _*_, _/_, _≤_, _<_};
+ghost use Prim.Native.Nat.{_*_, _/_, _≤_};
 ghost use mathlib.Core.Path.{_≡_};
-ghost use mathlib.Core.Bool.{true};
 ghost use lib.Dec.{ltb};
 ghost use lib.ListN.{length};
 ghost use Rattle.ground.specs.Levels.{distance, sizeOf};
@@ -11,7 +10,7 @@ ghost use Rattle.unit.specs.Chosen.{choose};
 ghost use Rattle.unit.specs.Choosing.{InRange, Over};
 ghost use Rattle.quick.specs.Kept.{Listed};
 ghost use Rattle.quick.specs.Best.{Best};
-ghost use Rattle.quick.specs.Asked.{Levels, Ground, Column, column, everywhere, tooWide};
+ghost use Rattle.quick.specs.Asked.{Levels, Ground, Column, column, everywhere, tooWide, UnfitBefore};
 use crate::half::Half;
 use crate::half::corner_of;
 use crate::halving::by_lat;
@@ -43,7 +42,7 @@ fn unfit(r: Rectangle, level: u32) -> bool
 // The coarsest level whose cells can fit the extents, or 28.
 fn first_level(r: Rectangle) -> u32
     ensures { λ l. ⌜ (9 ≤ l) × (l ≤ 28) ⌝ }
-    ensures { λ l. ⌜ (n : ℕ) → n < l → 9 ≤ n → tooWide r n ≡ true ⌝ }
+    ensures { λ l. ⌜ UnfitBefore r l ⌝ }
 {
     let mut level = 9;
     while level < 28 {

@@ -1,0 +1,48 @@
+use borrow.Author.Needs.{needs}
+use Rattle.quick.proofs.search.in_cell.Statement.{statement}
+use Rattle.quick.proofs.search.in_cell.Tie as tie
+use Rattle.quick.proofs.search.in_cell.Reads as reads
+use Rattle.quick.proofs.search.in_cell.Lts as lts
+use Rattle.boundary.proofs.odd_count.Reads as odd-count-reads
+use Rattle.quick.proofs.half.corner_of.Reads as corner-of-reads
+use Rattle.quick.proofs.halving.by_lat.Reads as by-lat-reads
+
+-- src/search.rt:93:43
+corner-of-requires : tie.Need-corner-of-requires
+corner-of-requires c κs = search needs
+
+-- src/search.rt:93:14
+odd-count-requires : tie.Need-odd-count-requires
+odd-count-requires c κs = search needs
+
+-- src/search.rt:97:45
+sub-by-lat : tie.Need-sub-by-lat
+sub-by-lat c = search needs
+
+-- src/search.rt:97:40
+mul-by-lat : tie.Need-mul-by-lat
+mul-by-lat c = search needs
+
+-- src/search.rt:97:5
+by-lat-requires : tie.Need-by-lat-requires
+by-lat-requires c κs = ?
+
+-- src/search.rt:84:1
+same-length : tie.Need-same-length
+same-length c = search needs
+
+-- src/search.rt:84:1
+returns : tie.Need-returns
+returns c = ?
+
+pub in-cell-spec : {M : Type 1} → statement M
+in-cell-spec =
+    tie.close
+    (tie.spec
+    corner-of-requires
+    odd-count-requires
+    sub-by-lat
+    mul-by-lat
+    by-lat-requires
+    same-length
+    returns)
