@@ -6,17 +6,14 @@ ghost use Rattle.quick.specs.Kept.{Same, Sound};
 ghost use Rattle.quick.specs.Best.{Best, lefter as Best·lefter, passesOver};
 ghost use Rattle.quick.specs.Asked.{ByLat, ByLon};
 use crate::half::Half;
-use crate::half::corner_of;
-use crate::half::east_of;
-use crate::half::north_of;
-use crate::half::south_of;
-use crate::half::west_of;
-use crate::kept::odd_at;
-use crate::kept::part_of;
+use crate::halves::east_half;
+use crate::halves::lat_split;
+use crate::halves::lon_split;
+use crate::halves::north_half;
+use crate::halves::south_half;
+use crate::halves::west_half;
 use crate::kept::unmet;
 use ground::Cell;
-use ground::Lat;
-use ground::Lon;
 use unit::Choice;
 
 // The test for passing over: no edge meets the half, and its centre is not inside, where the count is
@@ -75,17 +72,14 @@ pub(crate) fn by_lat(numbers: &[u32], room: &mut [u16], half: Half, level: u32, 
         return tried(numbers, room, half, level);
     }
     let ground = half.ground;
-    let south = ground.south;
     let north = ground.north;
-    let at = ground::high_side(level - left / 2 + 1, south.0) as u32;
-    if at == north.0 {
+    let at = lat_split(ground, level, left);
+    if at.0 == north.0 {
         return by_lon(numbers, room, half, level, left - 1);
     }
-    let low = part_of(numbers, room, half, south_of(ground, Lat(at)), half.odd);
+    let low = south_half(numbers, room, half, at);
     let first = by_lon(numbers, room, low, level, left - 1);
-    let above = north_of(ground, Lat(at));
-    let odd = odd_at(numbers, room, half, corner_of(above));
-    let high = part_of(numbers, room, half, above, odd);
+    let high = north_half(numbers, room, half, at);
     lefter(first, by_lon(numbers, room, high, level, left - 1))
 }
 
@@ -100,19 +94,16 @@ fn by_lon(numbers: &[u32], room: &mut [u16], half: Half, level: u32, left: u32) 
         return Choice::Nowhere;
     }
     let ground = half.ground;
-    let west = ground.west;
     let east = ground.east;
-    let at = ground::high_side(level - left / 2, west.0) as u32;
-    if at == east.0 {
+    let at = lon_split(ground, level, left);
+    if at.0 == east.0 {
         return by_lat(numbers, room, half, level, left - 1);
     }
-    let low = part_of(numbers, room, half, west_of(ground, Lon(at)), half.odd);
+    let low = west_half(numbers, room, half, at);
     let first = by_lat(numbers, room, low, level, left - 1);
     if let Choice::At(c) = first {
         return Choice::At(c);
     }
-    let beyond = east_of(ground, Lon(at));
-    let odd = odd_at(numbers, room, half, corner_of(beyond));
-    let high = part_of(numbers, room, half, beyond, odd);
+    let high = east_half(numbers, room, half, at);
     by_lat(numbers, room, high, level, left - 1)
 }

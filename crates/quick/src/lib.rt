@@ -1,5 +1,6 @@
 // The quick road: coding a unit by going down a tree of halves, coarsest level first.
 mod half;
+mod halves;
 mod halving;
 mod kept;
 mod search;

@@ -7,17 +7,15 @@ use Rattle.quick.proofs.halving.+by_lat+by_lon.Lts-by_lat as by-lat-lts
 use Rattle.quick.proofs.halving.by_lon.Reads as by-lon
 use Rattle.quick.proofs.halving.by_lon.Kinds as by-lon-kinds
 use Rattle.quick.proofs.halving.+by_lat+by_lon.Lts-by_lon as by-lon-lts
-use Rattle.ground.proofs.high_side.Reads as high-side-reads
-use Rattle.quick.proofs.half.corner_of.Reads as corner-of-reads
-use Rattle.quick.proofs.half.east_of.Reads as east-of-reads
-use Rattle.quick.proofs.half.north_of.Reads as north-of-reads
-use Rattle.quick.proofs.half.south_of.Reads as south-of-reads
-use Rattle.quick.proofs.half.west_of.Reads as west-of-reads
+use Rattle.quick.proofs.halves.east_half.Reads as east-half-reads
+use Rattle.quick.proofs.halves.lat_split.Reads as lat-split-reads
+use Rattle.quick.proofs.halves.lon_split.Reads as lon-split-reads
+use Rattle.quick.proofs.halves.north_half.Reads as north-half-reads
+use Rattle.quick.proofs.halves.south_half.Reads as south-half-reads
+use Rattle.quick.proofs.halves.west_half.Reads as west-half-reads
 use Rattle.quick.proofs.halving.lefter.Reads as lefter-reads
 use Rattle.quick.proofs.halving.passed_over.Reads as passed-over-reads
 use Rattle.quick.proofs.halving.tried.Reads as tried-reads
-use Rattle.quick.proofs.kept.odd_at.Reads as odd-at-reads
-use Rattle.quick.proofs.kept.part_of.Reads as part-of-reads
 use Rattle.quick.proofs.halving.+by_lat+by_lon.{statement}
 use Rattle.quick.proofs.halving.+by_lat+by_lon.Tie.{close}
 
@@ -39,1223 +37,682 @@ by-lon-at t = and 2 by-lon-kinds.ps (is 2 by-lon-kinds.ps μ-by-lon t) by-lon.Pr
 abbrev by-lon-below : ℕ → In 2 by-lon-kinds.ps
 by-lon-below t = and 2 by-lon-kinds.ps (falls 2 by-lon-kinds.ps _<_ μ-by-lon t) by-lon.Pre
 
--- src/halving.rt:71:8
+-- src/halving.rt:68:8
 by-lat-passed-over-requires : (t : ℕ) → by-lat-lts.Need-passed-over-requires (
   passed-over-reads.Asked,
   passed-over-reads.Learnt,
   tried-reads.Asked,
   tried-reads.Learnt,
-  high-side-reads.Asked,
-  high-side-reads.Learnt,
+  lat-split-reads.Asked,
+  lat-split-reads.Learnt,
   by-lon-below t,
   by-lon.Post,
-  south-of-reads.Asked,
-  south-of-reads.Learnt,
-  part-of-reads.Asked,
-  part-of-reads.Learnt,
-  north-of-reads.Asked,
-  north-of-reads.Learnt,
-  corner-of-reads.Asked,
-  corner-of-reads.Learnt,
-  odd-at-reads.Asked,
-  odd-at-reads.Learnt,
+  south-half-reads.Asked,
+  south-half-reads.Learnt,
+  north-half-reads.Asked,
+  north-half-reads.Learnt,
   lefter-reads.Asked,
   lefter-reads.Learnt,
 ) (by-lat-at t) by-lat.Post
 by-lat-passed-over-requires t c κs = ?
 
--- src/halving.rt:72:9
+-- src/halving.rt:69:9
 by-lat-same-length : (t : ℕ) → by-lat-lts.Need-same-length (
   passed-over-reads.Asked,
   passed-over-reads.Learnt,
   tried-reads.Asked,
   tried-reads.Learnt,
-  high-side-reads.Asked,
-  high-side-reads.Learnt,
+  lat-split-reads.Asked,
+  lat-split-reads.Learnt,
   by-lon-below t,
   by-lon.Post,
-  south-of-reads.Asked,
-  south-of-reads.Learnt,
-  part-of-reads.Asked,
-  part-of-reads.Learnt,
-  north-of-reads.Asked,
-  north-of-reads.Learnt,
-  corner-of-reads.Asked,
-  corner-of-reads.Learnt,
-  odd-at-reads.Asked,
-  odd-at-reads.Learnt,
+  south-half-reads.Asked,
+  south-half-reads.Learnt,
+  north-half-reads.Asked,
+  north-half-reads.Learnt,
   lefter-reads.Asked,
   lefter-reads.Learnt,
 ) (by-lat-at t) by-lat.Post
 by-lat-same-length t c = ?
 
--- src/halving.rt:72:9
+-- src/halving.rt:69:9
 by-lat-returns : (t : ℕ) → by-lat-lts.Need-returns (
   passed-over-reads.Asked,
   passed-over-reads.Learnt,
   tried-reads.Asked,
   tried-reads.Learnt,
-  high-side-reads.Asked,
-  high-side-reads.Learnt,
+  lat-split-reads.Asked,
+  lat-split-reads.Learnt,
   by-lon-below t,
   by-lon.Post,
-  south-of-reads.Asked,
-  south-of-reads.Learnt,
-  part-of-reads.Asked,
-  part-of-reads.Learnt,
-  north-of-reads.Asked,
-  north-of-reads.Learnt,
-  corner-of-reads.Asked,
-  corner-of-reads.Learnt,
-  odd-at-reads.Asked,
-  odd-at-reads.Learnt,
+  south-half-reads.Asked,
+  south-half-reads.Learnt,
+  north-half-reads.Asked,
+  north-half-reads.Learnt,
   lefter-reads.Asked,
   lefter-reads.Learnt,
 ) (by-lat-at t) by-lat.Post
 by-lat-returns t c = ?
 
--- src/halving.rt:75:9
+-- src/halving.rt:72:9
 by-lat-tried-requires : (t : ℕ) → by-lat-lts.Need-tried-requires (
   passed-over-reads.Asked,
   passed-over-reads.Learnt,
   tried-reads.Asked,
   tried-reads.Learnt,
-  high-side-reads.Asked,
-  high-side-reads.Learnt,
+  lat-split-reads.Asked,
+  lat-split-reads.Learnt,
   by-lon-below t,
   by-lon.Post,
-  south-of-reads.Asked,
-  south-of-reads.Learnt,
-  part-of-reads.Asked,
-  part-of-reads.Learnt,
-  north-of-reads.Asked,
-  north-of-reads.Learnt,
-  corner-of-reads.Asked,
-  corner-of-reads.Learnt,
-  odd-at-reads.Asked,
-  odd-at-reads.Learnt,
+  south-half-reads.Asked,
+  south-half-reads.Learnt,
+  north-half-reads.Asked,
+  north-half-reads.Learnt,
   lefter-reads.Asked,
   lefter-reads.Learnt,
 ) (by-lat-at t) by-lat.Post
 by-lat-tried-requires t c κs = ?
 
--- src/halving.rt:75:9
+-- src/halving.rt:72:9
 by-lat-same-length-2 : (t : ℕ) → by-lat-lts.Need-same-length-2 (
   passed-over-reads.Asked,
   passed-over-reads.Learnt,
   tried-reads.Asked,
   tried-reads.Learnt,
-  high-side-reads.Asked,
-  high-side-reads.Learnt,
+  lat-split-reads.Asked,
+  lat-split-reads.Learnt,
   by-lon-below t,
   by-lon.Post,
-  south-of-reads.Asked,
-  south-of-reads.Learnt,
-  part-of-reads.Asked,
-  part-of-reads.Learnt,
-  north-of-reads.Asked,
-  north-of-reads.Learnt,
-  corner-of-reads.Asked,
-  corner-of-reads.Learnt,
-  odd-at-reads.Asked,
-  odd-at-reads.Learnt,
+  south-half-reads.Asked,
+  south-half-reads.Learnt,
+  north-half-reads.Asked,
+  north-half-reads.Learnt,
   lefter-reads.Asked,
   lefter-reads.Learnt,
 ) (by-lat-at t) by-lat.Post
 by-lat-same-length-2 t c = ?
 
--- src/halving.rt:75:9
+-- src/halving.rt:72:9
 by-lat-returns-2 : (t : ℕ) → by-lat-lts.Need-returns-2 (
   passed-over-reads.Asked,
   passed-over-reads.Learnt,
   tried-reads.Asked,
   tried-reads.Learnt,
-  high-side-reads.Asked,
-  high-side-reads.Learnt,
+  lat-split-reads.Asked,
+  lat-split-reads.Learnt,
   by-lon-below t,
   by-lon.Post,
-  south-of-reads.Asked,
-  south-of-reads.Learnt,
-  part-of-reads.Asked,
-  part-of-reads.Learnt,
-  north-of-reads.Asked,
-  north-of-reads.Learnt,
-  corner-of-reads.Asked,
-  corner-of-reads.Learnt,
-  odd-at-reads.Asked,
-  odd-at-reads.Learnt,
+  south-half-reads.Asked,
+  south-half-reads.Learnt,
+  north-half-reads.Asked,
+  north-half-reads.Learnt,
   lefter-reads.Asked,
   lefter-reads.Learnt,
 ) (by-lat-at t) by-lat.Post
 by-lat-returns-2 t c = ?
 
--- src/halving.rt:80:32
-by-lat-sub-high-side : (t : ℕ) → by-lat-lts.Need-sub-high-side (
+-- src/halving.rt:76:9
+by-lat-lat-split-requires : (t : ℕ) → by-lat-lts.Need-lat-split-requires (
   passed-over-reads.Asked,
   passed-over-reads.Learnt,
   tried-reads.Asked,
   tried-reads.Learnt,
-  high-side-reads.Asked,
-  high-side-reads.Learnt,
+  lat-split-reads.Asked,
+  lat-split-reads.Learnt,
   by-lon-below t,
   by-lon.Post,
-  south-of-reads.Asked,
-  south-of-reads.Learnt,
-  part-of-reads.Asked,
-  part-of-reads.Learnt,
-  north-of-reads.Asked,
-  north-of-reads.Learnt,
-  corner-of-reads.Asked,
-  corner-of-reads.Learnt,
-  odd-at-reads.Asked,
-  odd-at-reads.Learnt,
+  south-half-reads.Asked,
+  south-half-reads.Learnt,
+  north-half-reads.Asked,
+  north-half-reads.Learnt,
   lefter-reads.Asked,
   lefter-reads.Learnt,
 ) (by-lat-at t) by-lat.Post
-by-lat-sub-high-side t c = ?
+by-lat-lat-split-requires t c κs = ?
 
--- src/halving.rt:80:32
-by-lat-add-high-side : (t : ℕ) → by-lat-lts.Need-add-high-side (
-  passed-over-reads.Asked,
-  passed-over-reads.Learnt,
-  tried-reads.Asked,
-  tried-reads.Learnt,
-  high-side-reads.Asked,
-  high-side-reads.Learnt,
-  by-lon-below t,
-  by-lon.Post,
-  south-of-reads.Asked,
-  south-of-reads.Learnt,
-  part-of-reads.Asked,
-  part-of-reads.Learnt,
-  north-of-reads.Asked,
-  north-of-reads.Learnt,
-  corner-of-reads.Asked,
-  corner-of-reads.Learnt,
-  odd-at-reads.Asked,
-  odd-at-reads.Learnt,
-  lefter-reads.Asked,
-  lefter-reads.Learnt,
-) (by-lat-at t) by-lat.Post
-by-lat-add-high-side t c = ?
-
--- src/halving.rt:80:14
-by-lat-high-side-requires : (t : ℕ) → by-lat-lts.Need-high-side-requires (
-  passed-over-reads.Asked,
-  passed-over-reads.Learnt,
-  tried-reads.Asked,
-  tried-reads.Learnt,
-  high-side-reads.Asked,
-  high-side-reads.Learnt,
-  by-lon-below t,
-  by-lon.Post,
-  south-of-reads.Asked,
-  south-of-reads.Learnt,
-  part-of-reads.Asked,
-  part-of-reads.Learnt,
-  north-of-reads.Asked,
-  north-of-reads.Learnt,
-  corner-of-reads.Asked,
-  corner-of-reads.Learnt,
-  odd-at-reads.Asked,
-  odd-at-reads.Learnt,
-  lefter-reads.Asked,
-  lefter-reads.Learnt,
-) (by-lat-at t) by-lat.Post
-by-lat-high-side-requires t c κs = ?
-
--- src/halving.rt:80:14
-by-lat-cast-at : (t : ℕ) → by-lat-lts.Need-cast-at (
-  passed-over-reads.Asked,
-  passed-over-reads.Learnt,
-  tried-reads.Asked,
-  tried-reads.Learnt,
-  high-side-reads.Asked,
-  high-side-reads.Learnt,
-  by-lon-below t,
-  by-lon.Post,
-  south-of-reads.Asked,
-  south-of-reads.Learnt,
-  part-of-reads.Asked,
-  part-of-reads.Learnt,
-  north-of-reads.Asked,
-  north-of-reads.Learnt,
-  corner-of-reads.Asked,
-  corner-of-reads.Learnt,
-  odd-at-reads.Asked,
-  odd-at-reads.Learnt,
-  lefter-reads.Asked,
-  lefter-reads.Learnt,
-) (by-lat-at t) by-lat.Post
-by-lat-cast-at t c = ?
-
--- src/halving.rt:82:51
+-- src/halving.rt:78:51
 by-lat-sub-by-lon : (t : ℕ) → by-lat-lts.Need-sub-by-lon (
   passed-over-reads.Asked,
   passed-over-reads.Learnt,
   tried-reads.Asked,
   tried-reads.Learnt,
-  high-side-reads.Asked,
-  high-side-reads.Learnt,
+  lat-split-reads.Asked,
+  lat-split-reads.Learnt,
   by-lon-below t,
   by-lon.Post,
-  south-of-reads.Asked,
-  south-of-reads.Learnt,
-  part-of-reads.Asked,
-  part-of-reads.Learnt,
-  north-of-reads.Asked,
-  north-of-reads.Learnt,
-  corner-of-reads.Asked,
-  corner-of-reads.Learnt,
-  odd-at-reads.Asked,
-  odd-at-reads.Learnt,
+  south-half-reads.Asked,
+  south-half-reads.Learnt,
+  north-half-reads.Asked,
+  north-half-reads.Learnt,
   lefter-reads.Asked,
   lefter-reads.Learnt,
 ) (by-lat-at t) by-lat.Post
 by-lat-sub-by-lon t c = ?
 
--- src/halving.rt:82:9
+-- src/halving.rt:78:9
 by-lat-by-lon-requires : (t : ℕ) → by-lat-lts.Need-by-lon-requires (
   passed-over-reads.Asked,
   passed-over-reads.Learnt,
   tried-reads.Asked,
   tried-reads.Learnt,
-  high-side-reads.Asked,
-  high-side-reads.Learnt,
+  lat-split-reads.Asked,
+  lat-split-reads.Learnt,
   by-lon-below t,
   by-lon.Post,
-  south-of-reads.Asked,
-  south-of-reads.Learnt,
-  part-of-reads.Asked,
-  part-of-reads.Learnt,
-  north-of-reads.Asked,
-  north-of-reads.Learnt,
-  corner-of-reads.Asked,
-  corner-of-reads.Learnt,
-  odd-at-reads.Asked,
-  odd-at-reads.Learnt,
+  south-half-reads.Asked,
+  south-half-reads.Learnt,
+  north-half-reads.Asked,
+  north-half-reads.Learnt,
   lefter-reads.Asked,
   lefter-reads.Learnt,
 ) (by-lat-at t) by-lat.Post
 by-lat-by-lon-requires t c κs = ?
 
--- src/halving.rt:82:9
+-- src/halving.rt:78:9
 by-lat-same-length-3 : (t : ℕ) → by-lat-lts.Need-same-length-3 (
   passed-over-reads.Asked,
   passed-over-reads.Learnt,
   tried-reads.Asked,
   tried-reads.Learnt,
-  high-side-reads.Asked,
-  high-side-reads.Learnt,
+  lat-split-reads.Asked,
+  lat-split-reads.Learnt,
   by-lon-below t,
   by-lon.Post,
-  south-of-reads.Asked,
-  south-of-reads.Learnt,
-  part-of-reads.Asked,
-  part-of-reads.Learnt,
-  north-of-reads.Asked,
-  north-of-reads.Learnt,
-  corner-of-reads.Asked,
-  corner-of-reads.Learnt,
-  odd-at-reads.Asked,
-  odd-at-reads.Learnt,
+  south-half-reads.Asked,
+  south-half-reads.Learnt,
+  north-half-reads.Asked,
+  north-half-reads.Learnt,
   lefter-reads.Asked,
   lefter-reads.Learnt,
 ) (by-lat-at t) by-lat.Post
 by-lat-same-length-3 t c = ?
 
--- src/halving.rt:82:9
+-- src/halving.rt:78:9
 by-lat-returns-3 : (t : ℕ) → by-lat-lts.Need-returns-3 (
   passed-over-reads.Asked,
   passed-over-reads.Learnt,
   tried-reads.Asked,
   tried-reads.Learnt,
-  high-side-reads.Asked,
-  high-side-reads.Learnt,
+  lat-split-reads.Asked,
+  lat-split-reads.Learnt,
   by-lon-below t,
   by-lon.Post,
-  south-of-reads.Asked,
-  south-of-reads.Learnt,
-  part-of-reads.Asked,
-  part-of-reads.Learnt,
-  north-of-reads.Asked,
-  north-of-reads.Learnt,
-  corner-of-reads.Asked,
-  corner-of-reads.Learnt,
-  odd-at-reads.Asked,
-  odd-at-reads.Learnt,
+  south-half-reads.Asked,
+  south-half-reads.Learnt,
+  north-half-reads.Asked,
+  north-half-reads.Learnt,
   lefter-reads.Asked,
   lefter-reads.Learnt,
 ) (by-lat-at t) by-lat.Post
 by-lat-returns-3 t c = ?
 
--- src/halving.rt:84:44
-by-lat-south-of-requires : (t : ℕ) → by-lat-lts.Need-south-of-requires (
+-- src/halving.rt:80:9
+by-lat-south-half-requires : (t : ℕ) → by-lat-lts.Need-south-half-requires (
   passed-over-reads.Asked,
   passed-over-reads.Learnt,
   tried-reads.Asked,
   tried-reads.Learnt,
-  high-side-reads.Asked,
-  high-side-reads.Learnt,
+  lat-split-reads.Asked,
+  lat-split-reads.Learnt,
   by-lon-below t,
   by-lon.Post,
-  south-of-reads.Asked,
-  south-of-reads.Learnt,
-  part-of-reads.Asked,
-  part-of-reads.Learnt,
-  north-of-reads.Asked,
-  north-of-reads.Learnt,
-  corner-of-reads.Asked,
-  corner-of-reads.Learnt,
-  odd-at-reads.Asked,
-  odd-at-reads.Learnt,
+  south-half-reads.Asked,
+  south-half-reads.Learnt,
+  north-half-reads.Asked,
+  north-half-reads.Learnt,
   lefter-reads.Asked,
   lefter-reads.Learnt,
 ) (by-lat-at t) by-lat.Post
-by-lat-south-of-requires t c κs = ?
+by-lat-south-half-requires t c κs = ?
 
--- src/halving.rt:84:9
-by-lat-part-of-requires : (t : ℕ) → by-lat-lts.Need-part-of-requires (
-  passed-over-reads.Asked,
-  passed-over-reads.Learnt,
-  tried-reads.Asked,
-  tried-reads.Learnt,
-  high-side-reads.Asked,
-  high-side-reads.Learnt,
-  by-lon-below t,
-  by-lon.Post,
-  south-of-reads.Asked,
-  south-of-reads.Learnt,
-  part-of-reads.Asked,
-  part-of-reads.Learnt,
-  north-of-reads.Asked,
-  north-of-reads.Learnt,
-  corner-of-reads.Asked,
-  corner-of-reads.Learnt,
-  odd-at-reads.Asked,
-  odd-at-reads.Learnt,
-  lefter-reads.Asked,
-  lefter-reads.Learnt,
-) (by-lat-at t) by-lat.Post
-by-lat-part-of-requires t c κs = ?
-
--- src/halving.rt:85:51
+-- src/halving.rt:81:51
 by-lat-sub-by-lon-2 : (t : ℕ) → by-lat-lts.Need-sub-by-lon-2 (
   passed-over-reads.Asked,
   passed-over-reads.Learnt,
   tried-reads.Asked,
   tried-reads.Learnt,
-  high-side-reads.Asked,
-  high-side-reads.Learnt,
+  lat-split-reads.Asked,
+  lat-split-reads.Learnt,
   by-lon-below t,
   by-lon.Post,
-  south-of-reads.Asked,
-  south-of-reads.Learnt,
-  part-of-reads.Asked,
-  part-of-reads.Learnt,
-  north-of-reads.Asked,
-  north-of-reads.Learnt,
-  corner-of-reads.Asked,
-  corner-of-reads.Learnt,
-  odd-at-reads.Asked,
-  odd-at-reads.Learnt,
+  south-half-reads.Asked,
+  south-half-reads.Learnt,
+  north-half-reads.Asked,
+  north-half-reads.Learnt,
   lefter-reads.Asked,
   lefter-reads.Learnt,
 ) (by-lat-at t) by-lat.Post
 by-lat-sub-by-lon-2 t c = ?
 
--- src/halving.rt:85:9
+-- src/halving.rt:81:9
 by-lat-by-lon-requires-2 : (t : ℕ) → by-lat-lts.Need-by-lon-requires-2 (
   passed-over-reads.Asked,
   passed-over-reads.Learnt,
   tried-reads.Asked,
   tried-reads.Learnt,
-  high-side-reads.Asked,
-  high-side-reads.Learnt,
+  lat-split-reads.Asked,
+  lat-split-reads.Learnt,
   by-lon-below t,
   by-lon.Post,
-  south-of-reads.Asked,
-  south-of-reads.Learnt,
-  part-of-reads.Asked,
-  part-of-reads.Learnt,
-  north-of-reads.Asked,
-  north-of-reads.Learnt,
-  corner-of-reads.Asked,
-  corner-of-reads.Learnt,
-  odd-at-reads.Asked,
-  odd-at-reads.Learnt,
+  south-half-reads.Asked,
+  south-half-reads.Learnt,
+  north-half-reads.Asked,
+  north-half-reads.Learnt,
   lefter-reads.Asked,
   lefter-reads.Learnt,
 ) (by-lat-at t) by-lat.Post
 by-lat-by-lon-requires-2 t c κs = ?
 
--- src/halving.rt:86:9
-by-lat-north-of-requires : (t : ℕ) → by-lat-lts.Need-north-of-requires (
+-- src/halving.rt:82:9
+by-lat-north-half-requires : (t : ℕ) → by-lat-lts.Need-north-half-requires (
   passed-over-reads.Asked,
   passed-over-reads.Learnt,
   tried-reads.Asked,
   tried-reads.Learnt,
-  high-side-reads.Asked,
-  high-side-reads.Learnt,
+  lat-split-reads.Asked,
+  lat-split-reads.Learnt,
   by-lon-below t,
   by-lon.Post,
-  south-of-reads.Asked,
-  south-of-reads.Learnt,
-  part-of-reads.Asked,
-  part-of-reads.Learnt,
-  north-of-reads.Asked,
-  north-of-reads.Learnt,
-  corner-of-reads.Asked,
-  corner-of-reads.Learnt,
-  odd-at-reads.Asked,
-  odd-at-reads.Learnt,
+  south-half-reads.Asked,
+  south-half-reads.Learnt,
+  north-half-reads.Asked,
+  north-half-reads.Learnt,
   lefter-reads.Asked,
   lefter-reads.Learnt,
 ) (by-lat-at t) by-lat.Post
-by-lat-north-of-requires t c κs = ?
+by-lat-north-half-requires t c κs = ?
 
--- src/halving.rt:87:43
-by-lat-corner-of-requires : (t : ℕ) → by-lat-lts.Need-corner-of-requires (
-  passed-over-reads.Asked,
-  passed-over-reads.Learnt,
-  tried-reads.Asked,
-  tried-reads.Learnt,
-  high-side-reads.Asked,
-  high-side-reads.Learnt,
-  by-lon-below t,
-  by-lon.Post,
-  south-of-reads.Asked,
-  south-of-reads.Learnt,
-  part-of-reads.Asked,
-  part-of-reads.Learnt,
-  north-of-reads.Asked,
-  north-of-reads.Learnt,
-  corner-of-reads.Asked,
-  corner-of-reads.Learnt,
-  odd-at-reads.Asked,
-  odd-at-reads.Learnt,
-  lefter-reads.Asked,
-  lefter-reads.Learnt,
-) (by-lat-at t) by-lat.Post
-by-lat-corner-of-requires t c κs = ?
-
--- src/halving.rt:87:9
-by-lat-odd-at-requires : (t : ℕ) → by-lat-lts.Need-odd-at-requires (
-  passed-over-reads.Asked,
-  passed-over-reads.Learnt,
-  tried-reads.Asked,
-  tried-reads.Learnt,
-  high-side-reads.Asked,
-  high-side-reads.Learnt,
-  by-lon-below t,
-  by-lon.Post,
-  south-of-reads.Asked,
-  south-of-reads.Learnt,
-  part-of-reads.Asked,
-  part-of-reads.Learnt,
-  north-of-reads.Asked,
-  north-of-reads.Learnt,
-  corner-of-reads.Asked,
-  corner-of-reads.Learnt,
-  odd-at-reads.Asked,
-  odd-at-reads.Learnt,
-  lefter-reads.Asked,
-  lefter-reads.Learnt,
-) (by-lat-at t) by-lat.Post
-by-lat-odd-at-requires t c κs = ?
-
--- src/halving.rt:88:9
-by-lat-part-of-requires-2 : (t : ℕ) → by-lat-lts.Need-part-of-requires-2 (
-  passed-over-reads.Asked,
-  passed-over-reads.Learnt,
-  tried-reads.Asked,
-  tried-reads.Learnt,
-  high-side-reads.Asked,
-  high-side-reads.Learnt,
-  by-lon-below t,
-  by-lon.Post,
-  south-of-reads.Asked,
-  south-of-reads.Learnt,
-  part-of-reads.Asked,
-  part-of-reads.Learnt,
-  north-of-reads.Asked,
-  north-of-reads.Learnt,
-  corner-of-reads.Asked,
-  corner-of-reads.Learnt,
-  odd-at-reads.Asked,
-  odd-at-reads.Learnt,
-  lefter-reads.Asked,
-  lefter-reads.Learnt,
-) (by-lat-at t) by-lat.Post
-by-lat-part-of-requires-2 t c κs = ?
-
--- src/halving.rt:89:54
+-- src/halving.rt:83:54
 by-lat-sub-by-lon-3 : (t : ℕ) → by-lat-lts.Need-sub-by-lon-3 (
   passed-over-reads.Asked,
   passed-over-reads.Learnt,
   tried-reads.Asked,
   tried-reads.Learnt,
-  high-side-reads.Asked,
-  high-side-reads.Learnt,
+  lat-split-reads.Asked,
+  lat-split-reads.Learnt,
   by-lon-below t,
   by-lon.Post,
-  south-of-reads.Asked,
-  south-of-reads.Learnt,
-  part-of-reads.Asked,
-  part-of-reads.Learnt,
-  north-of-reads.Asked,
-  north-of-reads.Learnt,
-  corner-of-reads.Asked,
-  corner-of-reads.Learnt,
-  odd-at-reads.Asked,
-  odd-at-reads.Learnt,
+  south-half-reads.Asked,
+  south-half-reads.Learnt,
+  north-half-reads.Asked,
+  north-half-reads.Learnt,
   lefter-reads.Asked,
   lefter-reads.Learnt,
 ) (by-lat-at t) by-lat.Post
 by-lat-sub-by-lon-3 t c = ?
 
--- src/halving.rt:89:19
+-- src/halving.rt:83:19
 by-lat-by-lon-requires-3 : (t : ℕ) → by-lat-lts.Need-by-lon-requires-3 (
   passed-over-reads.Asked,
   passed-over-reads.Learnt,
   tried-reads.Asked,
   tried-reads.Learnt,
-  high-side-reads.Asked,
-  high-side-reads.Learnt,
+  lat-split-reads.Asked,
+  lat-split-reads.Learnt,
   by-lon-below t,
   by-lon.Post,
-  south-of-reads.Asked,
-  south-of-reads.Learnt,
-  part-of-reads.Asked,
-  part-of-reads.Learnt,
-  north-of-reads.Asked,
-  north-of-reads.Learnt,
-  corner-of-reads.Asked,
-  corner-of-reads.Learnt,
-  odd-at-reads.Asked,
-  odd-at-reads.Learnt,
+  south-half-reads.Asked,
+  south-half-reads.Learnt,
+  north-half-reads.Asked,
+  north-half-reads.Learnt,
   lefter-reads.Asked,
   lefter-reads.Learnt,
 ) (by-lat-at t) by-lat.Post
 by-lat-by-lon-requires-3 t c κs = ?
 
--- src/halving.rt:89:5
+-- src/halving.rt:83:5
 by-lat-lefter-requires : (t : ℕ) → by-lat-lts.Need-lefter-requires (
   passed-over-reads.Asked,
   passed-over-reads.Learnt,
   tried-reads.Asked,
   tried-reads.Learnt,
-  high-side-reads.Asked,
-  high-side-reads.Learnt,
+  lat-split-reads.Asked,
+  lat-split-reads.Learnt,
   by-lon-below t,
   by-lon.Post,
-  south-of-reads.Asked,
-  south-of-reads.Learnt,
-  part-of-reads.Asked,
-  part-of-reads.Learnt,
-  north-of-reads.Asked,
-  north-of-reads.Learnt,
-  corner-of-reads.Asked,
-  corner-of-reads.Learnt,
-  odd-at-reads.Asked,
-  odd-at-reads.Learnt,
+  south-half-reads.Asked,
+  south-half-reads.Learnt,
+  north-half-reads.Asked,
+  north-half-reads.Learnt,
   lefter-reads.Asked,
   lefter-reads.Learnt,
 ) (by-lat-at t) by-lat.Post
 by-lat-lefter-requires t c κs = ?
 
--- src/halving.rt:65:1
+-- src/halving.rt:62:1
 by-lat-same-length-4 : (t : ℕ) → by-lat-lts.Need-same-length-4 (
   passed-over-reads.Asked,
   passed-over-reads.Learnt,
   tried-reads.Asked,
   tried-reads.Learnt,
-  high-side-reads.Asked,
-  high-side-reads.Learnt,
+  lat-split-reads.Asked,
+  lat-split-reads.Learnt,
   by-lon-below t,
   by-lon.Post,
-  south-of-reads.Asked,
-  south-of-reads.Learnt,
-  part-of-reads.Asked,
-  part-of-reads.Learnt,
-  north-of-reads.Asked,
-  north-of-reads.Learnt,
-  corner-of-reads.Asked,
-  corner-of-reads.Learnt,
-  odd-at-reads.Asked,
-  odd-at-reads.Learnt,
+  south-half-reads.Asked,
+  south-half-reads.Learnt,
+  north-half-reads.Asked,
+  north-half-reads.Learnt,
   lefter-reads.Asked,
   lefter-reads.Learnt,
 ) (by-lat-at t) by-lat.Post
 by-lat-same-length-4 t c = ?
 
--- src/halving.rt:65:1
+-- src/halving.rt:62:1
 by-lat-returns-4 : (t : ℕ) → by-lat-lts.Need-returns-4 (
   passed-over-reads.Asked,
   passed-over-reads.Learnt,
   tried-reads.Asked,
   tried-reads.Learnt,
-  high-side-reads.Asked,
-  high-side-reads.Learnt,
+  lat-split-reads.Asked,
+  lat-split-reads.Learnt,
   by-lon-below t,
   by-lon.Post,
-  south-of-reads.Asked,
-  south-of-reads.Learnt,
-  part-of-reads.Asked,
-  part-of-reads.Learnt,
-  north-of-reads.Asked,
-  north-of-reads.Learnt,
-  corner-of-reads.Asked,
-  corner-of-reads.Learnt,
-  odd-at-reads.Asked,
-  odd-at-reads.Learnt,
+  south-half-reads.Asked,
+  south-half-reads.Learnt,
+  north-half-reads.Asked,
+  north-half-reads.Learnt,
   lefter-reads.Asked,
   lefter-reads.Learnt,
 ) (by-lat-at t) by-lat.Post
 by-lat-returns-4 t c = ?
 
--- src/halving.rt:99:8
+-- src/halving.rt:93:8
 by-lon-passed-over-requires : (t : ℕ) → by-lon-lts.Need-passed-over-requires (
   passed-over-reads.Asked,
   passed-over-reads.Learnt,
-  high-side-reads.Asked,
-  high-side-reads.Learnt,
+  lon-split-reads.Asked,
+  lon-split-reads.Learnt,
   by-lat-below t,
   by-lat.Post,
-  west-of-reads.Asked,
-  west-of-reads.Learnt,
-  part-of-reads.Asked,
-  part-of-reads.Learnt,
-  east-of-reads.Asked,
-  east-of-reads.Learnt,
-  corner-of-reads.Asked,
-  corner-of-reads.Learnt,
-  odd-at-reads.Asked,
-  odd-at-reads.Learnt,
+  west-half-reads.Asked,
+  west-half-reads.Learnt,
+  east-half-reads.Asked,
+  east-half-reads.Learnt,
 ) (by-lon-at t) by-lon.Post
 by-lon-passed-over-requires t c κs = ?
 
--- src/halving.rt:100:9
+-- src/halving.rt:94:9
 by-lon-same-length : (t : ℕ) → by-lon-lts.Need-same-length (
   passed-over-reads.Asked,
   passed-over-reads.Learnt,
-  high-side-reads.Asked,
-  high-side-reads.Learnt,
+  lon-split-reads.Asked,
+  lon-split-reads.Learnt,
   by-lat-below t,
   by-lat.Post,
-  west-of-reads.Asked,
-  west-of-reads.Learnt,
-  part-of-reads.Asked,
-  part-of-reads.Learnt,
-  east-of-reads.Asked,
-  east-of-reads.Learnt,
-  corner-of-reads.Asked,
-  corner-of-reads.Learnt,
-  odd-at-reads.Asked,
-  odd-at-reads.Learnt,
+  west-half-reads.Asked,
+  west-half-reads.Learnt,
+  east-half-reads.Asked,
+  east-half-reads.Learnt,
 ) (by-lon-at t) by-lon.Post
 by-lon-same-length t c = ?
 
--- src/halving.rt:100:9
+-- src/halving.rt:94:9
 by-lon-returns : (t : ℕ) → by-lon-lts.Need-returns (
   passed-over-reads.Asked,
   passed-over-reads.Learnt,
-  high-side-reads.Asked,
-  high-side-reads.Learnt,
+  lon-split-reads.Asked,
+  lon-split-reads.Learnt,
   by-lat-below t,
   by-lat.Post,
-  west-of-reads.Asked,
-  west-of-reads.Learnt,
-  part-of-reads.Asked,
-  part-of-reads.Learnt,
-  east-of-reads.Asked,
-  east-of-reads.Learnt,
-  corner-of-reads.Asked,
-  corner-of-reads.Learnt,
-  odd-at-reads.Asked,
-  odd-at-reads.Learnt,
+  west-half-reads.Asked,
+  west-half-reads.Learnt,
+  east-half-reads.Asked,
+  east-half-reads.Learnt,
 ) (by-lon-at t) by-lon.Post
 by-lon-returns t c = ?
 
--- src/halving.rt:105:32
-by-lon-sub-high-side : (t : ℕ) → by-lon-lts.Need-sub-high-side (
+-- src/halving.rt:98:9
+by-lon-lon-split-requires : (t : ℕ) → by-lon-lts.Need-lon-split-requires (
   passed-over-reads.Asked,
   passed-over-reads.Learnt,
-  high-side-reads.Asked,
-  high-side-reads.Learnt,
+  lon-split-reads.Asked,
+  lon-split-reads.Learnt,
   by-lat-below t,
   by-lat.Post,
-  west-of-reads.Asked,
-  west-of-reads.Learnt,
-  part-of-reads.Asked,
-  part-of-reads.Learnt,
-  east-of-reads.Asked,
-  east-of-reads.Learnt,
-  corner-of-reads.Asked,
-  corner-of-reads.Learnt,
-  odd-at-reads.Asked,
-  odd-at-reads.Learnt,
+  west-half-reads.Asked,
+  west-half-reads.Learnt,
+  east-half-reads.Asked,
+  east-half-reads.Learnt,
 ) (by-lon-at t) by-lon.Post
-by-lon-sub-high-side t c = ?
+by-lon-lon-split-requires t c κs = ?
 
--- src/halving.rt:105:14
-by-lon-high-side-requires : (t : ℕ) → by-lon-lts.Need-high-side-requires (
-  passed-over-reads.Asked,
-  passed-over-reads.Learnt,
-  high-side-reads.Asked,
-  high-side-reads.Learnt,
-  by-lat-below t,
-  by-lat.Post,
-  west-of-reads.Asked,
-  west-of-reads.Learnt,
-  part-of-reads.Asked,
-  part-of-reads.Learnt,
-  east-of-reads.Asked,
-  east-of-reads.Learnt,
-  corner-of-reads.Asked,
-  corner-of-reads.Learnt,
-  odd-at-reads.Asked,
-  odd-at-reads.Learnt,
-) (by-lon-at t) by-lon.Post
-by-lon-high-side-requires t c κs = ?
-
--- src/halving.rt:105:14
-by-lon-cast-at : (t : ℕ) → by-lon-lts.Need-cast-at (
-  passed-over-reads.Asked,
-  passed-over-reads.Learnt,
-  high-side-reads.Asked,
-  high-side-reads.Learnt,
-  by-lat-below t,
-  by-lat.Post,
-  west-of-reads.Asked,
-  west-of-reads.Learnt,
-  part-of-reads.Asked,
-  part-of-reads.Learnt,
-  east-of-reads.Asked,
-  east-of-reads.Learnt,
-  corner-of-reads.Asked,
-  corner-of-reads.Learnt,
-  odd-at-reads.Asked,
-  odd-at-reads.Learnt,
-) (by-lon-at t) by-lon.Post
-by-lon-cast-at t c = ?
-
--- src/halving.rt:107:51
+-- src/halving.rt:100:51
 by-lon-sub-by-lat : (t : ℕ) → by-lon-lts.Need-sub-by-lat (
   passed-over-reads.Asked,
   passed-over-reads.Learnt,
-  high-side-reads.Asked,
-  high-side-reads.Learnt,
+  lon-split-reads.Asked,
+  lon-split-reads.Learnt,
   by-lat-below t,
   by-lat.Post,
-  west-of-reads.Asked,
-  west-of-reads.Learnt,
-  part-of-reads.Asked,
-  part-of-reads.Learnt,
-  east-of-reads.Asked,
-  east-of-reads.Learnt,
-  corner-of-reads.Asked,
-  corner-of-reads.Learnt,
-  odd-at-reads.Asked,
-  odd-at-reads.Learnt,
+  west-half-reads.Asked,
+  west-half-reads.Learnt,
+  east-half-reads.Asked,
+  east-half-reads.Learnt,
 ) (by-lon-at t) by-lon.Post
 by-lon-sub-by-lat t c = ?
 
--- src/halving.rt:107:9
+-- src/halving.rt:100:9
 by-lon-by-lat-requires : (t : ℕ) → by-lon-lts.Need-by-lat-requires (
   passed-over-reads.Asked,
   passed-over-reads.Learnt,
-  high-side-reads.Asked,
-  high-side-reads.Learnt,
+  lon-split-reads.Asked,
+  lon-split-reads.Learnt,
   by-lat-below t,
   by-lat.Post,
-  west-of-reads.Asked,
-  west-of-reads.Learnt,
-  part-of-reads.Asked,
-  part-of-reads.Learnt,
-  east-of-reads.Asked,
-  east-of-reads.Learnt,
-  corner-of-reads.Asked,
-  corner-of-reads.Learnt,
-  odd-at-reads.Asked,
-  odd-at-reads.Learnt,
+  west-half-reads.Asked,
+  west-half-reads.Learnt,
+  east-half-reads.Asked,
+  east-half-reads.Learnt,
 ) (by-lon-at t) by-lon.Post
 by-lon-by-lat-requires t c κs = ?
 
--- src/halving.rt:107:9
+-- src/halving.rt:100:9
 by-lon-same-length-2 : (t : ℕ) → by-lon-lts.Need-same-length-2 (
   passed-over-reads.Asked,
   passed-over-reads.Learnt,
-  high-side-reads.Asked,
-  high-side-reads.Learnt,
+  lon-split-reads.Asked,
+  lon-split-reads.Learnt,
   by-lat-below t,
   by-lat.Post,
-  west-of-reads.Asked,
-  west-of-reads.Learnt,
-  part-of-reads.Asked,
-  part-of-reads.Learnt,
-  east-of-reads.Asked,
-  east-of-reads.Learnt,
-  corner-of-reads.Asked,
-  corner-of-reads.Learnt,
-  odd-at-reads.Asked,
-  odd-at-reads.Learnt,
+  west-half-reads.Asked,
+  west-half-reads.Learnt,
+  east-half-reads.Asked,
+  east-half-reads.Learnt,
 ) (by-lon-at t) by-lon.Post
 by-lon-same-length-2 t c = ?
 
--- src/halving.rt:107:9
+-- src/halving.rt:100:9
 by-lon-returns-2 : (t : ℕ) → by-lon-lts.Need-returns-2 (
   passed-over-reads.Asked,
   passed-over-reads.Learnt,
-  high-side-reads.Asked,
-  high-side-reads.Learnt,
+  lon-split-reads.Asked,
+  lon-split-reads.Learnt,
   by-lat-below t,
   by-lat.Post,
-  west-of-reads.Asked,
-  west-of-reads.Learnt,
-  part-of-reads.Asked,
-  part-of-reads.Learnt,
-  east-of-reads.Asked,
-  east-of-reads.Learnt,
-  corner-of-reads.Asked,
-  corner-of-reads.Learnt,
-  odd-at-reads.Asked,
-  odd-at-reads.Learnt,
+  west-half-reads.Asked,
+  west-half-reads.Learnt,
+  east-half-reads.Asked,
+  east-half-reads.Learnt,
 ) (by-lon-at t) by-lon.Post
 by-lon-returns-2 t c = ?
 
--- src/halving.rt:109:44
-by-lon-west-of-requires : (t : ℕ) → by-lon-lts.Need-west-of-requires (
+-- src/halving.rt:102:9
+by-lon-west-half-requires : (t : ℕ) → by-lon-lts.Need-west-half-requires (
   passed-over-reads.Asked,
   passed-over-reads.Learnt,
-  high-side-reads.Asked,
-  high-side-reads.Learnt,
+  lon-split-reads.Asked,
+  lon-split-reads.Learnt,
   by-lat-below t,
   by-lat.Post,
-  west-of-reads.Asked,
-  west-of-reads.Learnt,
-  part-of-reads.Asked,
-  part-of-reads.Learnt,
-  east-of-reads.Asked,
-  east-of-reads.Learnt,
-  corner-of-reads.Asked,
-  corner-of-reads.Learnt,
-  odd-at-reads.Asked,
-  odd-at-reads.Learnt,
+  west-half-reads.Asked,
+  west-half-reads.Learnt,
+  east-half-reads.Asked,
+  east-half-reads.Learnt,
 ) (by-lon-at t) by-lon.Post
-by-lon-west-of-requires t c κs = ?
+by-lon-west-half-requires t c κs = ?
 
--- src/halving.rt:109:9
-by-lon-part-of-requires : (t : ℕ) → by-lon-lts.Need-part-of-requires (
-  passed-over-reads.Asked,
-  passed-over-reads.Learnt,
-  high-side-reads.Asked,
-  high-side-reads.Learnt,
-  by-lat-below t,
-  by-lat.Post,
-  west-of-reads.Asked,
-  west-of-reads.Learnt,
-  part-of-reads.Asked,
-  part-of-reads.Learnt,
-  east-of-reads.Asked,
-  east-of-reads.Learnt,
-  corner-of-reads.Asked,
-  corner-of-reads.Learnt,
-  odd-at-reads.Asked,
-  odd-at-reads.Learnt,
-) (by-lon-at t) by-lon.Post
-by-lon-part-of-requires t c κs = ?
-
--- src/halving.rt:110:51
+-- src/halving.rt:103:51
 by-lon-sub-by-lat-2 : (t : ℕ) → by-lon-lts.Need-sub-by-lat-2 (
   passed-over-reads.Asked,
   passed-over-reads.Learnt,
-  high-side-reads.Asked,
-  high-side-reads.Learnt,
+  lon-split-reads.Asked,
+  lon-split-reads.Learnt,
   by-lat-below t,
   by-lat.Post,
-  west-of-reads.Asked,
-  west-of-reads.Learnt,
-  part-of-reads.Asked,
-  part-of-reads.Learnt,
-  east-of-reads.Asked,
-  east-of-reads.Learnt,
-  corner-of-reads.Asked,
-  corner-of-reads.Learnt,
-  odd-at-reads.Asked,
-  odd-at-reads.Learnt,
+  west-half-reads.Asked,
+  west-half-reads.Learnt,
+  east-half-reads.Asked,
+  east-half-reads.Learnt,
 ) (by-lon-at t) by-lon.Post
 by-lon-sub-by-lat-2 t c = ?
 
--- src/halving.rt:110:9
+-- src/halving.rt:103:9
 by-lon-by-lat-requires-2 : (t : ℕ) → by-lon-lts.Need-by-lat-requires-2 (
   passed-over-reads.Asked,
   passed-over-reads.Learnt,
-  high-side-reads.Asked,
-  high-side-reads.Learnt,
+  lon-split-reads.Asked,
+  lon-split-reads.Learnt,
   by-lat-below t,
   by-lat.Post,
-  west-of-reads.Asked,
-  west-of-reads.Learnt,
-  part-of-reads.Asked,
-  part-of-reads.Learnt,
-  east-of-reads.Asked,
-  east-of-reads.Learnt,
-  corner-of-reads.Asked,
-  corner-of-reads.Learnt,
-  odd-at-reads.Asked,
-  odd-at-reads.Learnt,
+  west-half-reads.Asked,
+  west-half-reads.Learnt,
+  east-half-reads.Asked,
+  east-half-reads.Learnt,
 ) (by-lon-at t) by-lon.Post
 by-lon-by-lat-requires-2 t c κs = ?
 
--- src/halving.rt:111:23
+-- src/halving.rt:104:23
 by-lon-enum-known-first : (t : ℕ) → by-lon-lts.Need-enum-known-first (
   passed-over-reads.Asked,
   passed-over-reads.Learnt,
-  high-side-reads.Asked,
-  high-side-reads.Learnt,
+  lon-split-reads.Asked,
+  lon-split-reads.Learnt,
   by-lat-below t,
   by-lat.Post,
-  west-of-reads.Asked,
-  west-of-reads.Learnt,
-  part-of-reads.Asked,
-  part-of-reads.Learnt,
-  east-of-reads.Asked,
-  east-of-reads.Learnt,
-  corner-of-reads.Asked,
-  corner-of-reads.Learnt,
-  odd-at-reads.Asked,
-  odd-at-reads.Learnt,
+  west-half-reads.Asked,
+  west-half-reads.Learnt,
+  east-half-reads.Asked,
+  east-half-reads.Learnt,
 ) (by-lon-at t) by-lon.Post
 by-lon-enum-known-first t c = ?
 
--- src/halving.rt:112:9
+-- src/halving.rt:105:9
 by-lon-same-length-3 : (t : ℕ) → by-lon-lts.Need-same-length-3 (
   passed-over-reads.Asked,
   passed-over-reads.Learnt,
-  high-side-reads.Asked,
-  high-side-reads.Learnt,
+  lon-split-reads.Asked,
+  lon-split-reads.Learnt,
   by-lat-below t,
   by-lat.Post,
-  west-of-reads.Asked,
-  west-of-reads.Learnt,
-  part-of-reads.Asked,
-  part-of-reads.Learnt,
-  east-of-reads.Asked,
-  east-of-reads.Learnt,
-  corner-of-reads.Asked,
-  corner-of-reads.Learnt,
-  odd-at-reads.Asked,
-  odd-at-reads.Learnt,
+  west-half-reads.Asked,
+  west-half-reads.Learnt,
+  east-half-reads.Asked,
+  east-half-reads.Learnt,
 ) (by-lon-at t) by-lon.Post
 by-lon-same-length-3 t c = ?
 
--- src/halving.rt:112:9
+-- src/halving.rt:105:9
 by-lon-returns-3 : (t : ℕ) → by-lon-lts.Need-returns-3 (
   passed-over-reads.Asked,
   passed-over-reads.Learnt,
-  high-side-reads.Asked,
-  high-side-reads.Learnt,
+  lon-split-reads.Asked,
+  lon-split-reads.Learnt,
   by-lat-below t,
   by-lat.Post,
-  west-of-reads.Asked,
-  west-of-reads.Learnt,
-  part-of-reads.Asked,
-  part-of-reads.Learnt,
-  east-of-reads.Asked,
-  east-of-reads.Learnt,
-  corner-of-reads.Asked,
-  corner-of-reads.Learnt,
-  odd-at-reads.Asked,
-  odd-at-reads.Learnt,
+  west-half-reads.Asked,
+  west-half-reads.Learnt,
+  east-half-reads.Asked,
+  east-half-reads.Learnt,
 ) (by-lon-at t) by-lon.Post
 by-lon-returns-3 t c = ?
 
 by-lon-enum-told : (t : ℕ) → by-lon-lts.Need-enum-told (
   passed-over-reads.Asked,
   passed-over-reads.Learnt,
-  high-side-reads.Asked,
-  high-side-reads.Learnt,
+  lon-split-reads.Asked,
+  lon-split-reads.Learnt,
   by-lat-below t,
   by-lat.Post,
-  west-of-reads.Asked,
-  west-of-reads.Learnt,
-  part-of-reads.Asked,
-  part-of-reads.Learnt,
-  east-of-reads.Asked,
-  east-of-reads.Learnt,
-  corner-of-reads.Asked,
-  corner-of-reads.Learnt,
-  odd-at-reads.Asked,
-  odd-at-reads.Learnt,
+  west-half-reads.Asked,
+  west-half-reads.Learnt,
+  east-half-reads.Asked,
+  east-half-reads.Learnt,
 ) (by-lon-at t) by-lon.Post
 by-lon-enum-told t c = ?
 
--- src/halving.rt:114:9
-by-lon-east-of-requires : (t : ℕ) → by-lon-lts.Need-east-of-requires (
+-- src/halving.rt:107:9
+by-lon-east-half-requires : (t : ℕ) → by-lon-lts.Need-east-half-requires (
   passed-over-reads.Asked,
   passed-over-reads.Learnt,
-  high-side-reads.Asked,
-  high-side-reads.Learnt,
+  lon-split-reads.Asked,
+  lon-split-reads.Learnt,
   by-lat-below t,
   by-lat.Post,
-  west-of-reads.Asked,
-  west-of-reads.Learnt,
-  part-of-reads.Asked,
-  part-of-reads.Learnt,
-  east-of-reads.Asked,
-  east-of-reads.Learnt,
-  corner-of-reads.Asked,
-  corner-of-reads.Learnt,
-  odd-at-reads.Asked,
-  odd-at-reads.Learnt,
+  west-half-reads.Asked,
+  west-half-reads.Learnt,
+  east-half-reads.Asked,
+  east-half-reads.Learnt,
 ) (by-lon-at t) by-lon.Post
-by-lon-east-of-requires t c κs = ?
+by-lon-east-half-requires t c κs = ?
 
--- src/halving.rt:115:43
-by-lon-corner-of-requires : (t : ℕ) → by-lon-lts.Need-corner-of-requires (
-  passed-over-reads.Asked,
-  passed-over-reads.Learnt,
-  high-side-reads.Asked,
-  high-side-reads.Learnt,
-  by-lat-below t,
-  by-lat.Post,
-  west-of-reads.Asked,
-  west-of-reads.Learnt,
-  part-of-reads.Asked,
-  part-of-reads.Learnt,
-  east-of-reads.Asked,
-  east-of-reads.Learnt,
-  corner-of-reads.Asked,
-  corner-of-reads.Learnt,
-  odd-at-reads.Asked,
-  odd-at-reads.Learnt,
-) (by-lon-at t) by-lon.Post
-by-lon-corner-of-requires t c κs = ?
-
--- src/halving.rt:115:9
-by-lon-odd-at-requires : (t : ℕ) → by-lon-lts.Need-odd-at-requires (
-  passed-over-reads.Asked,
-  passed-over-reads.Learnt,
-  high-side-reads.Asked,
-  high-side-reads.Learnt,
-  by-lat-below t,
-  by-lat.Post,
-  west-of-reads.Asked,
-  west-of-reads.Learnt,
-  part-of-reads.Asked,
-  part-of-reads.Learnt,
-  east-of-reads.Asked,
-  east-of-reads.Learnt,
-  corner-of-reads.Asked,
-  corner-of-reads.Learnt,
-  odd-at-reads.Asked,
-  odd-at-reads.Learnt,
-) (by-lon-at t) by-lon.Post
-by-lon-odd-at-requires t c κs = ?
-
--- src/halving.rt:116:9
-by-lon-part-of-requires-2 : (t : ℕ) → by-lon-lts.Need-part-of-requires-2 (
-  passed-over-reads.Asked,
-  passed-over-reads.Learnt,
-  high-side-reads.Asked,
-  high-side-reads.Learnt,
-  by-lat-below t,
-  by-lat.Post,
-  west-of-reads.Asked,
-  west-of-reads.Learnt,
-  part-of-reads.Asked,
-  part-of-reads.Learnt,
-  east-of-reads.Asked,
-  east-of-reads.Learnt,
-  corner-of-reads.Asked,
-  corner-of-reads.Learnt,
-  odd-at-reads.Asked,
-  odd-at-reads.Learnt,
-) (by-lon-at t) by-lon.Post
-by-lon-part-of-requires-2 t c κs = ?
-
--- src/halving.rt:117:40
+-- src/halving.rt:108:40
 by-lon-sub-by-lat-3 : (t : ℕ) → by-lon-lts.Need-sub-by-lat-3 (
   passed-over-reads.Asked,
   passed-over-reads.Learnt,
-  high-side-reads.Asked,
-  high-side-reads.Learnt,
+  lon-split-reads.Asked,
+  lon-split-reads.Learnt,
   by-lat-below t,
   by-lat.Post,
-  west-of-reads.Asked,
-  west-of-reads.Learnt,
-  part-of-reads.Asked,
-  part-of-reads.Learnt,
-  east-of-reads.Asked,
-  east-of-reads.Learnt,
-  corner-of-reads.Asked,
-  corner-of-reads.Learnt,
-  odd-at-reads.Asked,
-  odd-at-reads.Learnt,
+  west-half-reads.Asked,
+  west-half-reads.Learnt,
+  east-half-reads.Asked,
+  east-half-reads.Learnt,
 ) (by-lon-at t) by-lon.Post
 by-lon-sub-by-lat-3 t c = ?
 
--- src/halving.rt:117:5
+-- src/halving.rt:108:5
 by-lon-by-lat-requires-3 : (t : ℕ) → by-lon-lts.Need-by-lat-requires-3 (
   passed-over-reads.Asked,
   passed-over-reads.Learnt,
-  high-side-reads.Asked,
-  high-side-reads.Learnt,
+  lon-split-reads.Asked,
+  lon-split-reads.Learnt,
   by-lat-below t,
   by-lat.Post,
-  west-of-reads.Asked,
-  west-of-reads.Learnt,
-  part-of-reads.Asked,
-  part-of-reads.Learnt,
-  east-of-reads.Asked,
-  east-of-reads.Learnt,
-  corner-of-reads.Asked,
-  corner-of-reads.Learnt,
-  odd-at-reads.Asked,
-  odd-at-reads.Learnt,
+  west-half-reads.Asked,
+  west-half-reads.Learnt,
+  east-half-reads.Asked,
+  east-half-reads.Learnt,
 ) (by-lon-at t) by-lon.Post
 by-lon-by-lat-requires-3 t c κs = ?
 
--- src/halving.rt:93:1
+-- src/halving.rt:87:1
 by-lon-same-length-4 : (t : ℕ) → by-lon-lts.Need-same-length-4 (
   passed-over-reads.Asked,
   passed-over-reads.Learnt,
-  high-side-reads.Asked,
-  high-side-reads.Learnt,
+  lon-split-reads.Asked,
+  lon-split-reads.Learnt,
   by-lat-below t,
   by-lat.Post,
-  west-of-reads.Asked,
-  west-of-reads.Learnt,
-  part-of-reads.Asked,
-  part-of-reads.Learnt,
-  east-of-reads.Asked,
-  east-of-reads.Learnt,
-  corner-of-reads.Asked,
-  corner-of-reads.Learnt,
-  odd-at-reads.Asked,
-  odd-at-reads.Learnt,
+  west-half-reads.Asked,
+  west-half-reads.Learnt,
+  east-half-reads.Asked,
+  east-half-reads.Learnt,
 ) (by-lon-at t) by-lon.Post
 by-lon-same-length-4 t c = ?
 
--- src/halving.rt:93:1
+-- src/halving.rt:87:1
 by-lon-returns-4 : (t : ℕ) → by-lon-lts.Need-returns-4 (
   passed-over-reads.Asked,
   passed-over-reads.Learnt,
-  high-side-reads.Asked,
-  high-side-reads.Learnt,
+  lon-split-reads.Asked,
+  lon-split-reads.Learnt,
   by-lat-below t,
   by-lat.Post,
-  west-of-reads.Asked,
-  west-of-reads.Learnt,
-  part-of-reads.Asked,
-  part-of-reads.Learnt,
-  east-of-reads.Asked,
-  east-of-reads.Learnt,
-  corner-of-reads.Asked,
-  corner-of-reads.Learnt,
-  odd-at-reads.Asked,
-  odd-at-reads.Learnt,
+  west-half-reads.Asked,
+  west-half-reads.Learnt,
+  east-half-reads.Asked,
+  east-half-reads.Learnt,
 ) (by-lon-at t) by-lon.Post
 by-lon-returns-4 t c = ?
 
@@ -1265,20 +722,14 @@ pub +by-lat+by-lon-spec : {M : Type 1} → statement M
   passed-over-reads.Learnt,
   tried-reads.Asked,
   tried-reads.Learnt,
-  high-side-reads.Asked,
-  high-side-reads.Learnt,
+  lat-split-reads.Asked,
+  lat-split-reads.Learnt,
   by-lon-below t,
   by-lon.Post,
-  south-of-reads.Asked,
-  south-of-reads.Learnt,
-  part-of-reads.Asked,
-  part-of-reads.Learnt,
-  north-of-reads.Asked,
-  north-of-reads.Learnt,
-  corner-of-reads.Asked,
-  corner-of-reads.Learnt,
-  odd-at-reads.Asked,
-  odd-at-reads.Learnt,
+  south-half-reads.Asked,
+  south-half-reads.Learnt,
+  north-half-reads.Asked,
+  north-half-reads.Learnt,
   lefter-reads.Asked,
   lefter-reads.Learnt,
 )
@@ -1290,22 +741,15 @@ pub +by-lat+by-lon-spec : {M : Type 1} → statement M
     (by-lat-tried-requires t)
     (by-lat-same-length-2 t)
     (by-lat-returns-2 t)
-    (by-lat-sub-high-side t)
-    (by-lat-add-high-side t)
-    (by-lat-high-side-requires t)
-    (by-lat-cast-at t)
+    (by-lat-lat-split-requires t)
     (by-lat-sub-by-lon t)
     (by-lat-by-lon-requires t)
     (by-lat-same-length-3 t)
     (by-lat-returns-3 t)
-    (by-lat-south-of-requires t)
-    (by-lat-part-of-requires t)
+    (by-lat-south-half-requires t)
     (by-lat-sub-by-lon-2 t)
     (by-lat-by-lon-requires-2 t)
-    (by-lat-north-of-requires t)
-    (by-lat-corner-of-requires t)
-    (by-lat-odd-at-requires t)
-    (by-lat-part-of-requires-2 t)
+    (by-lat-north-half-requires t)
     (by-lat-sub-by-lon-3 t)
     (by-lat-by-lon-requires-3 t)
     (by-lat-lefter-requires t)
@@ -1314,45 +758,33 @@ pub +by-lat+by-lon-spec : {M : Type 1} → statement M
     λ t. by-lon-lts.spec (
       passed-over-reads.Asked,
       passed-over-reads.Learnt,
-      high-side-reads.Asked,
-      high-side-reads.Learnt,
+      lon-split-reads.Asked,
+      lon-split-reads.Learnt,
       by-lat-below t,
       by-lat.Post,
-      west-of-reads.Asked,
-      west-of-reads.Learnt,
-      part-of-reads.Asked,
-      part-of-reads.Learnt,
-      east-of-reads.Asked,
-      east-of-reads.Learnt,
-      corner-of-reads.Asked,
-      corner-of-reads.Learnt,
-      odd-at-reads.Asked,
-      odd-at-reads.Learnt,
+      west-half-reads.Asked,
+      west-half-reads.Learnt,
+      east-half-reads.Asked,
+      east-half-reads.Learnt,
     )
     (by-lon-at t)
     by-lon.Post
     (by-lon-passed-over-requires t)
     (by-lon-same-length t)
     (by-lon-returns t)
-    (by-lon-sub-high-side t)
-    (by-lon-high-side-requires t)
-    (by-lon-cast-at t)
+    (by-lon-lon-split-requires t)
     (by-lon-sub-by-lat t)
     (by-lon-by-lat-requires t)
     (by-lon-same-length-2 t)
     (by-lon-returns-2 t)
-    (by-lon-west-of-requires t)
-    (by-lon-part-of-requires t)
+    (by-lon-west-half-requires t)
     (by-lon-sub-by-lat-2 t)
     (by-lon-by-lat-requires-2 t)
     (by-lon-enum-known-first t)
     (by-lon-same-length-3 t)
     (by-lon-returns-3 t)
     (by-lon-enum-told t)
-    (by-lon-east-of-requires t)
-    (by-lon-corner-of-requires t)
-    (by-lon-odd-at-requires t)
-    (by-lon-part-of-requires-2 t)
+    (by-lon-east-half-requires t)
     (by-lon-sub-by-lat-3 t)
     (by-lon-by-lat-requires-3 t)
     (by-lon-same-length-4 t)

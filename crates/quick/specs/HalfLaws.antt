@@ -1,0 +1,161 @@
+-- The laws of a half: its parts, the count at its centre, the answer for a half that is a cell, and the halves that follow. Assumes nothing.
+use Prim.Native.Nat.{ℕ, _+_, _-_, _/_, _%_, _≤_, _<_}
+use native.Mathlib.Nat.{eq-or-lt-of-le}
+use native.Mathlib.Omega.{arith}
+use mathlib.Core.Path.{_≡_, refl, sym, ap, subst, _∙_}
+use mathlib.Core.Logic.{_⊎_, inl, inr}
+use mathlib.Core.Bool.{Bool, true, false, cond, not, _&&_, and-true, and-false, true≢false}
+use mathlib.Core.List.{List}
+use lib.ListN.{length, getD}
+use Rattle.ground.specs.declared.Lat.{Lat}
+use Rattle.ground.specs.declared.Lon.{Lon}
+use Rattle.ground.specs.declared.Point.{Point}
+use Rattle.ground.specs.declared.Rectangle.{Rectangle}
+use Rattle.ground.specs.declared.Cell.{Cell}
+use Rattle.ground.specs.Levels.{latEnd, lonEnd}
+use Rattle.ground.specs.Cells.{lowSide, highSide, sidesOf, centreOf, IsCell}
+use Rattle.ground.specs.CellTest.{low-below-high}
+use Rattle.ground.specs.Sides.{none-between, high-low}
+use Rattle.ground.specs.Halves.{Span, low-finer, low-half, half-most, high-half, whole-half}
+use Rattle.boundary.specs.Boundary.{edgesOf, pointInside, unmet, inside}
+use Rattle.boundary.specs.Corners.{cornersOf}
+use Rattle.boundary.specs.Missing.{Within}
+use Rattle.boundary.specs.Parity.{Lies, same-inside}
+use Rattle.boundary.specs.Inner.{centre-lies}
+use Rattle.unit.specs.declared.Choice.{Choice}
+use Rattle.unit.specs.declared.Choice.the-variants.{At, Nowhere}
+use Rattle.unit.specs.Chosen.{Lefter}
+use Rattle.quick.specs.declared.half.Half.{Half}
+use Rattle.quick.specs.Kept.{Same, southWest, oddAt, Sound, Part}
+use Rattle.quick.specs.Best.{Wanted, Best, southOf, northOf, westOf, eastOf, passesOver}
+use Rattle.quick.specs.Asked.{ByLat, ByLon}
+
+module _ {numbers room : List ℕ} {h : Half} (s : Sound numbers room h) where
+  -- The parts of a half's ground have room and lie within it
+  pub south-part : (at : Lat) → (h .ground .south .0 < at .0) × (at .0 < h .ground .north .0) → Part h (southOf (h .ground) at)
+  south-part at b = record { wide = omega (arith, s .wide .across, b .0); within = omega (arith, b .1) }
+
+  pub north-part : (at : Lat) → (h .ground .south .0 < at .0) × (at .0 < h .ground .north .0) → Part h (northOf (h .ground) at)
+  north-part at b = record { wide = omega (arith, s .wide .across, b .1); within = omega (arith, b .0) }
+
+  pub west-part : (at : Lon) → (h .ground .west .0 < at .0) × (at .0 < h .ground .east .0) → Part h (westOf (h .ground) at)
+  west-part at b = record { wide = omega (arith, s .wide .up, b .0); within = omega (arith, b .1) }
+
+  pub east-part : (at : Lon) → (h .ground .west .0 < at .0) × (at .0 < h .ground .east .0) → Part h (eastOf (h .ground) at)
+  east-part at b = record { wide = omega (arith, s .wide .up, b .1); within = omega (arith, b .0) }
+
+  -- The south-west corner of a part lies in the ground
+  pub corner-lies : {part : Rectangle} → Part h part → Lies (h .ground) (southWest part)
+  corner-lies p = omega (arith, p .wide .across, p .wide .up, p .within .west, p .within .east, p .within .south, p .within .north)
+
+  -- Where no edge meets a half, the count at its centre is odd where it is at its south-west corner
+  centre-odd : unmet (h .ground) (edgesOf (cornersOf numbers)) ≡ true → pointInside (centreOf (h .ground)) (edgesOf (cornersOf numbers)) ≡ h .odd
+  centre-odd u =
+      let lies : Lies (h .ground) (southWest (h .ground)) = omega (arith, s .wide .across, s .wide .up) in
+      same-inside (centre-lies (s .wide)) lies (cornersOf numbers) u ∙ sym (s .odd)
+
+  -- So passing over is told by the corner's count
+  pub passed-even : not (h .odd) ≡ true → unmet (h .ground) (edgesOf (cornersOf numbers)) ≡ passesOver (cornersOf numbers) (h .ground)
+  unfolding passesOver
+  passed-even e = at (unmet (h .ground) (edgesOf (cornersOf numbers))) refl
+    where
+      at : (t : Bool) → unmet (h .ground) (edgesOf (cornersOf numbers)) ≡ t
+          → t ≡ (t && not (pointInside (centreOf (h .ground)) (edgesOf (cornersOf numbers))))
+      at true u = sym (ap not (centre-odd u) ∙ e)
+      at false u = refl
+
+  pub passed-odd : not (h .odd) ≡ false → false ≡ passesOver (cornersOf numbers) (h .ground)
+  unfolding passesOver
+  passed-odd e = at (unmet (h .ground) (edgesOf (cornersOf numbers))) refl
+    where
+      at : (t : Bool) → unmet (h .ground) (edgesOf (cornersOf numbers)) ≡ t
+          → false ≡ (t && not (pointInside (centreOf (h .ground)) (edgesOf (cornersOf numbers))))
+      at true u = sym (ap not (centre-odd u) ∙ e)
+      at false u = refl
+
+  -- and so is the test of a cell
+  pub tried-odd : h .odd ≡ true
+      → (unmet (h .ground) (edgesOf (cornersOf numbers)) && pointInside (centreOf (h .ground)) (edgesOf (cornersOf numbers)))
+      ≡ unmet (h .ground) (edgesOf (cornersOf numbers))
+  tried-odd e = at (unmet (h .ground) (edgesOf (cornersOf numbers))) refl
+    where
+      at : (t : Bool) → unmet (h .ground) (edgesOf (cornersOf numbers)) ≡ t
+          → (t && pointInside (centreOf (h .ground)) (edgesOf (cornersOf numbers))) ≡ t
+      at true u = centre-odd u ∙ e
+      at false u = refl
+
+  pub tried-even : h .odd ≡ false
+      → (unmet (h .ground) (edgesOf (cornersOf numbers)) && pointInside (centreOf (h .ground)) (edgesOf (cornersOf numbers))) ≡ false
+  tried-even e = at (unmet (h .ground) (edgesOf (cornersOf numbers))) refl
+    where
+      at : (t : Bool) → unmet (h .ground) (edgesOf (cornersOf numbers)) ≡ t
+          → (t && pointInside (centreOf (h .ground)) (edgesOf (cornersOf numbers))) ≡ false
+      at true u = centre-odd u ∙ e
+      at false u = refl
+
+-- The cell of a level with the south-west corner of a rectangle
+abbrev pub cellOf : ℕ → Rectangle → Cell
+cellOf level r = record { level = level; west = r .west; south = r .south }
+
+module _ (corners : List Point) {level : ℕ} {r : Rectangle} (b : ByLat level 0 r) where
+  -- A half with no halvings left is the ground of a cell
+  ground-cell : sidesOf (cellOf level r) ≡ r
+  unfolding sidesOf
+  ground-cell =
+      λ i. record { west = r .west; east = record { 0 = sym (b .lon .high) i }; south = r .south; north = record { 0 = sym (b .lat .high) i } }
+
+  cell-cell : IsCell (cellOf level r)
+  unfolding sidesOf
+  cell-cell =
+      record {
+        coarsest = b .coarsest;
+        finest = b .finest;
+        west = b .lon .low;
+        south = b .lat .low;
+        east-end = subst (λ (n : ℕ). n ≤ lonEnd) (b .lon .high) (b .east-end);
+        north-end = subst (λ (n : ℕ). n ≤ latEnd) (b .lat .high) (b .north-end);
+      }
+
+  -- In one direction a cell of the level that lies in it starts where it does
+  one-side : {a e d : ℕ} → Span level a e → lowSide level d ≡ d → a ≤ d → highSide level d ≤ e → d ≡ a
+  one-side {a} {e} {d} s is least most = at (eq-or-lt-of-le least)
+    where
+      at : (a ≡ d) ⊎ (a < d) → d ≡ a
+      at (inl k) = sym k
+      at (inr k) =
+          let next : highSide level a ≤ d = none-between level (b .coarsest) (b .finest) a d (s .low) is k in
+          let none : ⊥ = omega (arith, s .high, low-below-high level d (b .coarsest) (b .finest)) in
+          absurd none
+
+  -- so that it is that cell
+  only-cell : (d : Cell) → Wanted corners level r d → d ≡ cellOf level r
+  unfolding sidesOf
+  only-cell d w =
+      let west : d .west .0 ≡ r .west .0 =
+      one-side (b .lon) (subst (λ (n : ℕ). lowSide n (d .west .0) ≡ d .west .0) (w .of) (w .cell .west)) (w .lies .west)
+      (subst (λ (n : ℕ). highSide n (d .west .0) ≤ r .east .0) (w .of) (w .lies .east)) in
+      let south : d .south .0 ≡ r .south .0 =
+      one-side (b .lat) (subst (λ (n : ℕ). lowSide n (d .south .0) ≡ d .south .0) (w .of) (w .cell .south)) (w .lies .south)
+      (subst (λ (n : ℕ). highSide n (d .south .0) ≤ r .north .0) (w .of) (w .lies .north)) in
+      λ i. record { level = w .of i; west = record { 0 = west i }; south = record { 0 = south i } }
+
+  -- What the boundary says of the ground it says of the cell
+  cell-inside : {t : Bool} → (unmet r (edgesOf corners) && pointInside (centreOf r) (edgesOf corners)) ≡ t → inside corners (cellOf level r) ≡ t
+  unfolding inside
+  cell-inside e = ap (λ (x : Rectangle). unmet x (edgesOf corners) && pointInside (centreOf x) (edgesOf corners)) ground-cell ∙ e
+
+  -- So the answer for it is the cell, if it is inside
+  pub best-cell : (unmet r (edgesOf corners) && pointInside (centreOf r) (edgesOf corners)) ≡ true → Best corners level r (At (cellOf level r))
+  unfolding sidesOf
+  best-cell e =
+      (
+        record { cell = cell-cell; of = refl; is = cell-inside e; lies = subst (λ (x : Rectangle). Within x r) (sym ground-cell) (omega arith) },
+        λ d w l. not-lefter d w l,
+      )
+    where
+      not-lefter : (d : Cell) → Wanted corners level r d → Lefter d (cellOf level r) → ⊥
+      not-lefter d w (inl k) = omega (arith, w .lies .west)
+      not-lefter d w (inr (k, m)) = omega (arith, w .lies .south)
+
+  pub best-no-cell : (unmet r (edgesOf corners) && pointInside (centreOf r) (edgesOf corners)) ≡ false → Best corners level r Nowhere
+  best-no-cell e d w = true≢false (sym (ap (inside corners) (only-cell d w) ∙ cell-inside e) ∙ w .is)

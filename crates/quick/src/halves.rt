@@ -1,0 +1,82 @@
+// The two halves of a half, by latitude and by longitude, and where they meet: a degree or a minute is
+// split at 32, and cut ground unevenly or not at all.
+ghost use Prim.Native.Nat.{_+_, _-_, _/_, _≤_, _<_};
+ghost use mathlib.Core.Path.{_≡_};
+ghost use Rattle.ground.specs.Cells.{highSide};
+ghost use Rattle.quick.specs.Kept.{Same, Sound};
+ghost use Rattle.quick.specs.Best.{southOf, northOf, westOf, eastOf};
+ghost use Rattle.quick.specs.Asked.{ByLat, ByLon};
+use crate::half::Half;
+use crate::half::corner_of;
+use crate::half::east_of;
+use crate::half::north_of;
+use crate::half::south_of;
+use crate::half::west_of;
+use crate::kept::odd_at;
+use crate::kept::part_of;
+use ground::Lat;
+use ground::Lon;
+use ground::Rectangle;
+
+// The latitude at which ground is halved; its north side where it is not.
+pub(crate) fn lat_split(r: Rectangle, level: u32, left: u32) -> Lat
+    requires { ⌜ ByLat level left r ⌝ }
+    requires { ⌜ 0 < left ⌝ }
+    ensures { λ at. ⌜ at .0 ≡ highSide (level - left / 2 + 1) (r .south .0) ⌝ }
+{
+    let south = r.south;
+    Lat(ground::high_side(level - left / 2 + 1, south.0) as u32)
+}
+
+// The longitude at which ground is halved; its east side where it is not.
+pub(crate) fn lon_split(r: Rectangle, level: u32, left: u32) -> Lon
+    requires { ⌜ ByLon level left r ⌝ }
+    ensures { λ at. ⌜ at .0 ≡ highSide (level - left / 2) (r .west .0) ⌝ }
+{
+    let west = r.west;
+    Lon(ground::high_side(level - left / 2, west.0) as u32)
+}
+
+// The half south of a latitude: it has the whole's south-west corner.
+pub(crate) fn south_half(numbers: &[u32], room: &mut [u16], half: Half, at: Lat) -> Half
+    requires { ⌜ Sound (now numbers) (now room) half ⌝ }
+    requires { ⌜ (half .ground .south .0 < at .0) × (at .0 < half .ground .north .0) ⌝ }
+    ensures { λ h. ⌜ (h .ground ≡ southOf (half .ground) at) × Sound (now (numbers .entry)) (now (room .exit)) h ⌝ }
+    ensures { λ h. ⌜ (half .to ≤ h .to) × Same (half .to) (now (room .entry)) (now (room .exit)) ⌝ }
+{
+    part_of(numbers, room, half, south_of(half.ground, at), half.odd)
+}
+
+// The half north of it.
+pub(crate) fn north_half(numbers: &[u32], room: &mut [u16], half: Half, at: Lat) -> Half
+    requires { ⌜ Sound (now numbers) (now room) half ⌝ }
+    requires { ⌜ (half .ground .south .0 < at .0) × (at .0 < half .ground .north .0) ⌝ }
+    ensures { λ h. ⌜ (h .ground ≡ northOf (half .ground) at) × Sound (now (numbers .entry)) (now (room .exit)) h ⌝ }
+    ensures { λ h. ⌜ (half .to ≤ h .to) × Same (half .to) (now (room .entry)) (now (room .exit)) ⌝ }
+{
+    let part = north_of(half.ground, at);
+    let odd = odd_at(numbers, room, half, corner_of(part));
+    part_of(numbers, room, half, part, odd)
+}
+
+// The half west of a longitude: it has the whole's south-west corner.
+pub(crate) fn west_half(numbers: &[u32], room: &mut [u16], half: Half, at: Lon) -> Half
+    requires { ⌜ Sound (now numbers) (now room) half ⌝ }
+    requires { ⌜ (half .ground .west .0 < at .0) × (at .0 < half .ground .east .0) ⌝ }
+    ensures { λ h. ⌜ (h .ground ≡ westOf (half .ground) at) × Sound (now (numbers .entry)) (now (room .exit)) h ⌝ }
+    ensures { λ h. ⌜ (half .to ≤ h .to) × Same (half .to) (now (room .entry)) (now (room .exit)) ⌝ }
+{
+    part_of(numbers, room, half, west_of(half.ground, at), half.odd)
+}
+
+// The half east of it.
+pub(crate) fn east_half(numbers: &[u32], room: &mut [u16], half: Half, at: Lon) -> Half
+    requires { ⌜ Sound (now numbers) (now room) half ⌝ }
+    requires { ⌜ (half .ground .west .0 < at .0) × (at .0 < half .ground .east .0) ⌝ }
+    ensures { λ h. ⌜ (h .ground ≡ eastOf (half .ground) at) × Sound (now (numbers .entry)) (now (room .exit)) h ⌝ }
+    ensures { λ h. ⌜ (half .to ≤ h .to) × Same (half .to) (now (room .entry)) (now (room .exit)) ⌝ }
+{
+    let part = east_of(half.ground, at);
+    let odd = odd_at(numbers, room, half, corner_of(part));
+    part_of(numbers, room, half, part, odd)
+}
