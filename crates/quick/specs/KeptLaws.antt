@@ -198,10 +198,12 @@ module _ {numbers lent : List ℕ} where
         (m .keeps)
 
     -- An edge that misses the part is left out
-    pub moved-misses : i < to → misses (edgeAt numbers (getD room i 0)) part ≡ true → Moved numbers lent room part to end (i + 1)
-    moved-misses h t =
+    pub moved-misses : {missed : Bool} → i < to → missed ≡ misses (edgeAt numbers (getD room i 0)) part → not missed ≡ false
+        → Moved numbers lent room part to end (i + 1)
+    moved-misses {missed} h t n =
         record {
-          keeps = keeps-drop (keptIn numbers room to end) (edgeAt numbers (getD room i 0)) (keptIn numbers room (i + 1) to) t (moved-next h);
+          keeps = keeps-drop (keptIn numbers room to end) (edgeAt numbers (getD room i 0)) (keptIn numbers room (i + 1) to)
+          (sym t ∙ not-false missed n) (moved-next h);
           first = m .first;
           last = m .last;
           same = m .same;
@@ -262,6 +264,13 @@ module _ {numbers lent : List ℕ} where
           first = m .first;
           last = m .last;
         }
+
+  -- with the room and the end by other names
+  pub moved-as : {room named : List ℕ} {part : Rectangle} {to end last i : ℕ} → named ≡ room → last ≡ end
+      → Moved numbers lent room part to end i → Moved numbers lent named part to last i
+  moved-as {room} {named} {part} {to} {end} {last} {i} e f m =
+      subst (λ (n : ℕ). Moved numbers lent named part to n i) (sym f)
+      (subst (λ (l : List ℕ). Moved numbers lent l part to end i) (sym e) m)
 
   -- Where the room ends, the half's own edges are kept
   pub moved-full : {h : Half} {part : Rectangle} {room : List ℕ} {end i : ℕ} → Sound numbers lent h → Part h part

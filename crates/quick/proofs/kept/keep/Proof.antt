@@ -2,9 +2,9 @@
 use Prim.Native.Nat.{_-_, _<_}
 use borrow.Author.Needs.{needs}
 use native.Mathlib.Omega.{arith}
-use mathlib.Core.Logic.{inl, inr}
+use mathlib.Core.Logic.{⊎-elim}
 use lib.ListN.{length}
-use Rattle.quick.specs.KeptLaws.{Moved, moved-begin, moved-misses, moved-meets, moved-end, moved-full}
+use Rattle.quick.specs.KeptLaws.{Moved, moved-begin, moved-misses, moved-meets, moved-as, moved-end, moved-full}
 use Rattle.quick.proofs.kept.keep.Statement.{statement}
 use Rattle.quick.proofs.kept.keep.Tie as tie
 
@@ -55,7 +55,12 @@ loop-less : tie.Need-loop-less Inv-loop μ-loop
 loop-less c = search needs
 
 loop-again : tie.Need-loop-again Inv-loop μ-loop
-loop-again c = ?
+loop-again c =
+    let at = c .before .before .before in
+    let m = at .before .loop .inv in
+    ⊎-elim (λ w. moved-as (w .2) (w .3) (moved-meets m (at .loop-test .taken) (w .1 .left)))
+    (λ w. moved-as (w .1) (w .2) (moved-misses m (at .loop-test .taken) (c .before .misses-at .ensures) (w .0 .left)))
+    (c .if1 .came)
 
 same-length-2 : tie.Need-same-length-2 Inv-loop μ-loop
 same-length-2 c = c .before .loop .inv .long
