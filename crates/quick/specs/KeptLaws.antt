@@ -13,12 +13,12 @@ use borrow.Author.Tests.{not-true, not-false}
 use Rattle.ground.specs.declared.Lon.{Lon}
 use Rattle.ground.specs.declared.Point.{Point}
 use Rattle.ground.specs.declared.Rectangle.{Rectangle}
-use Rattle.boundary.specs.Boundary.{Edge, edgesOf, misses, pointInside, unmet}
+use Rattle.boundary.specs.Boundary.{Edge, edgesOf, misses, unmet}
 use Rattle.boundary.specs.Corners.{cornersOf}
-use Rattle.boundary.specs.Missing.{Within, Ordered}
+use Rattle.boundary.specs.Products.{either-way}
 use Rattle.boundary.specs.Odd.{differ, oddly, differ-comm, unlike}
 use Rattle.boundary.specs.Changes.{differ-sums}
-use Rattle.boundary.specs.Parity.{Room, Lies}
+use Rattle.boundary.specs.Parity.{Lies}
 use Rattle.boundary.specs.Keeping.{Keeps, edgeAt, upFrom, turns, keeps-inner, keeps-drop, keeps-unmet, keeps-turned}
 use Rattle.quick.specs.declared.half.Half.{Half}
 use Rattle.quick.specs.Kept.{gather, keptIn, Same, southWest, oddAt, Placed, Sound, Part, Listed}
@@ -46,17 +46,6 @@ gather-places room (suc n) i h =
     ap₂ (λ (v : ℕ) (vs : List ℕ). v ∷ vs) (h i (omega arith) (omega arith))
     (gather-places room n (suc i) (λ j p q. h j (omega arith) (omega arith)))
 
--- A place is below another or not
-either : (a b : ℕ) → (a < b) ⊎ (b ≤ a)
-either zero zero = inr (omega arith)
-either zero (suc b) = inl (omega arith)
-either (suc a) zero = inr (omega arith)
-either (suc a) (suc b) = up (either a b)
-  where
-    up : (a < b) ⊎ (b ≤ a) → (suc a < suc b) ⊎ (suc b ≤ suc a)
-    up (inl h) = inl (omega arith)
-    up (inr h) = inr (omega arith)
-
 -- The first places of a room are their own entries, and it is as long as it was
 pub record Filled (lent room : List ℕ) (i : ℕ) : Type 0 where
   pub own : (j : ℕ) → j < i → getD room j 0 ≡ j
@@ -68,13 +57,13 @@ filled-begin lent = record { own = λ j h. let none : ⊥ = omega arith in absur
 
 -- One place more
 pub filled-again : {lent room : List ℕ} {i : ℕ} → Filled lent room i → i < length room → Filled lent (set room i i) (i + 1)
-filled-again {lent} {room} {i} f h = record { own = λ j k. at j k (either j i); long = length-set room i i ∙ f .long }
+filled-again {lent} {room} {i} f h = record { own = λ j k. at j k (either-way i j); long = length-set room i i ∙ f .long }
   where
-    at : (j : ℕ) → j < i + 1 → (j < i) ⊎ (i ≤ j) → getD (set room i i) j 0 ≡ j
-    at j k (inl p) = getD-set-other room i j i 0 (λ e. let none : ⊥ = omega arith in none) ∙ f .own j p
-    at j k (inr p) =
+    at : (j : ℕ) → j < i + 1 → (i ≤ j) ⊎ (j < i) → getD (set room i i) j 0 ≡ j
+    at j k (inl p) =
         let e : j ≡ i = omega arith in
         ap (λ (n : ℕ). getD (set room i i) n 0) e ∙ getD-set-same room i i 0 h ∙ sym e
+    at j k (inr p) = getD-set-other room i j i 0 (λ e. let none : ⊥ = omega arith in none) ∙ f .own j p
 
 -- At the end all places of the boundary are listed
 pub filled-end : {numbers lent room : List ℕ} {i : ℕ} → Filled lent room i → length numbers / 2 ≤ i → length numbers / 2 ≤ length lent
@@ -139,7 +128,7 @@ odd-begin {numbers} {room} {h} {p} {q} s in-q e =
     let in-p : Lies (h .ground) (southWest (h .ground)) = omega (arith, s .wide .across, s .wide .up) in
     record {
       left = keeps-turned in-p in-q (s .placed .keeps)
-      ∙ ap₂ (λ (b : Bool) (at : Point). differ b (oddly (turns (h .ground .east) at q) kept)) (sym (s .odd)) (sym e);
+          ∙ ap₂ (λ (b : Bool) (at : Point). differ b (oddly (turns (h .ground .east) at q) kept)) (sym (s .odd)) (sym e);
     }
 
 module _ {numbers room : List ℕ} {east : Lon} {p q : Point} {to : ℕ} {odd : Bool} {i : ℕ} (o : OddLeft numbers room east p q to odd i) where
@@ -182,7 +171,7 @@ module _ {numbers lent : List ℕ} where
   moved-begin {h} {part} s p =
       record {
         keeps = subst (λ (es : List Edge). Keeps (cornersOf numbers) part (es ++ keptIn numbers lent (h .from) (h .to)))
-        (sym (kept-none numbers lent (h .to) (h .to) (omega arith))) (keeps-part s p);
+            (sym (kept-none numbers lent (h .to) (h .to) (omega arith))) (keeps-part s p);
         first = omega arith;
         last = s .placed .last;
         same = λ j k. refl;
@@ -203,7 +192,7 @@ module _ {numbers lent : List ℕ} where
     moved-misses {missed} h t n =
         record {
           keeps = keeps-drop (keptIn numbers room to end) (edgeAt numbers (getD room i 0)) (keptIn numbers room (i + 1) to)
-          (sym t ∙ not-false missed n) (moved-next h);
+              (sym t ∙ not-false missed n) (moved-next h);
           first = m .first;
           last = m .last;
           same = m .same;
@@ -215,7 +204,7 @@ module _ {numbers lent : List ℕ} where
     moved-meets h k =
         record {
           keeps = subst (Keeps (cornersOf numbers) part) (sym (ap₂ _++_ behind before ∙ append-assoc kept (edgeAt numbers place ∷ []) rest))
-          (moved-next h);
+              (moved-next h);
           first = omega (arith, m .first);
           last = omega (arith, length-set room end place);
           same = λ j l. other j (omega (arith, m .first)) ∙ m .same j l;
@@ -259,8 +248,8 @@ module _ {numbers lent : List ℕ} where
     moved-end h =
         record {
           keeps = subst (Keeps (cornersOf numbers) part)
-          (ap (λ (es : List Edge). keptIn numbers room to end ++ es) (kept-none numbers room i to h) ∙ append-nil (keptIn numbers room to end))
-          (m .keeps);
+              (ap (λ (es : List Edge). keptIn numbers room to end ++ es) (kept-none numbers room i to h) ∙ append-nil (keptIn numbers room to end))
+              (m .keeps);
           first = m .first;
           last = m .last;
         }
@@ -284,9 +273,3 @@ module _ {numbers lent : List ℕ} where
         first = s .placed .first;
         last = omega (arith, m .first, m .last);
       }
-
--- A part with its places and the odd count at its corner is sound
-pub part-sound : {numbers room : List ℕ} {h : Half} {part : Rectangle} {from to : ℕ} {odd : Bool} → Part h part
-    → Placed numbers room part from to → odd ≡ oddAt numbers (southWest part)
-    → Sound numbers room (record { ground = part; odd = odd; from = from; to = to })
-part-sound p placed e = record { wide = p .wide; placed = placed; odd = e }
