@@ -97,6 +97,7 @@ pub unmet-begin : {numbers room : List ℕ} {h : Half} → Sound numbers room h 
 unmet-begin s = record { left = keeps-unmet (s .placed .keeps) }
 
 module _ {numbers room : List ℕ} {r : Rectangle} {to i : ℕ} (u : UnmetLeft numbers room r to i) where
+  -- The first of the edges left, and the others
   unmet-next : (b : Bool) → i < to → b ≡ misses (edgeAt numbers (getD room i 0)) r
       → unmet r (edgesOf (cornersOf numbers)) ≡ (b && unmet r (keptIn numbers room (i + 1) to))
   unmet-next b h t =
