@@ -5,7 +5,7 @@ use native.Mathlib.Numerals.{add-one}
 use native.Mathlib.Omega.{arith}
 use mathlib.Core.Path.{_≡_, refl, ap, ap₂, _∙_, sym}
 use mathlib.Core.Bool.{Bool, true, false, cond, _&&_}
-use mathlib.Core.List.{List, [], _∷_, map}
+use mathlib.Core.List.{List, [], _∷_, _++_, map}
 use lib.Dec.{eqb}
 use lib.ListN.{length, drop, drop-of-length-le}
 use borrow.Author.Tests.{eq-eqb, ne-eqb}
@@ -27,11 +27,6 @@ use Rattle.boundary.specs.Loops.{no-corners}
 pub record Keeps (corners : List Point) (r : Rectangle) (es : List Edge) : Type 0 where
   pub sum : (op : Bool → Bool → Bool) (unit : Bool) → Sums op unit → (f : Edge → Bool) → ((e : Edge) → misses e r ≡ true → f e ≡ unit)
       → total op unit f (edgesOf corners) ≡ total op unit f es
-
--- The edges of a list that meet a rectangle
-abbrev pub meeting : Rectangle → List Edge → List Edge
-meeting r [] = []
-meeting r (e ∷ es) = cond (misses e r) (meeting r es) (e ∷ meeting r es)
 
 -- The place after a place of a boundary: after the last comes the first
 abbrev pub nextPlace : List ℕ → ℕ → ℕ
@@ -88,21 +83,17 @@ module _ (numbers : List ℕ) where
 pub keeps-inner : {corners : List Point} {r s : Rectangle} {es : List Edge} → Ordered r → Within r s → Keeps corners s es → Keeps corners r es
 keeps-inner o h k = record { sum = λ op unit laws f none. k .sum op unit laws f (λ e t. none e (misses-within o h e t)) }
 
--- Edges that miss change no sum to which they add nothing
-total-meeting : (op : Bool → Bool → Bool) (unit : Bool) → Sums op unit → (f : Edge → Bool) (r : Rectangle)
-    → ((e : Edge) → misses e r ≡ true → f e ≡ unit) → (es : List Edge) → total op unit f es ≡ total op unit f (meeting r es)
-total-meeting op unit laws f r none [] = refl
-total-meeting op unit laws f r none (e ∷ es) = at (misses e r) refl (total-meeting op unit laws f r none es)
-  where
-    at : (b : Bool) → misses e r ≡ b → total op unit f es ≡ total op unit f (meeting r es)
-        → op (f e) (total op unit f es) ≡ total op unit f (cond b (meeting r es) (e ∷ meeting r es))
-    at true t ih = ap (λ (x : Bool). op x (total op unit f es)) (none e t) ∙ laws .none (total op unit f es) ∙ ih
-    at false t ih = ap (op (f e)) ih
+-- An edge that misses changes no sum to which it adds nothing
+total-drop : (op : Bool → Bool → Bool) (unit : Bool) → Sums op unit → (f : Edge → Bool) (xs : List Edge) (e : Edge) (ys : List Edge)
+    → f e ≡ unit → total op unit f (xs ++ (e ∷ ys)) ≡ total op unit f (xs ++ ys)
+total-drop op unit laws f [] e ys h = ap (λ (x : Bool). op x (total op unit f ys)) h ∙ laws .none (total op unit f ys)
+total-drop op unit laws f (x ∷ xs) e ys h = ap (op (f x)) (total-drop op unit laws f xs e ys h)
 
--- and those that miss may be left out
-pub keeps-meeting : {corners : List Point} {r : Rectangle} {es : List Edge} → Keeps corners r es → Keeps corners r (meeting r es)
-keeps-meeting {corners} {r} {es} k =
-    record { sum = λ op unit laws f none. k .sum op unit laws f none ∙ total-meeting op unit laws f r none es }
+-- and may be left out
+pub keeps-drop : {corners : List Point} {r : Rectangle} (xs : List Edge) (e : Edge) (ys : List Edge) → misses e r ≡ true
+    → Keeps corners r (xs ++ (e ∷ ys)) → Keeps corners r (xs ++ ys)
+keeps-drop xs e ys t k =
+    record { sum = λ op unit laws f none. k .sum op unit laws f none ∙ total-drop op unit laws f xs e ys (none e t) }
 
 -- No edge meets the rectangle where none of those kept does
 pub keeps-unmet : {corners : List Point} {r : Rectangle} {es : List Edge} → Keeps corners r es → unmet r (edgesOf corners) ≡ unmet r es

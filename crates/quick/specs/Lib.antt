@@ -1,4 +1,5 @@
 pub mod Kept
+pub mod KeptLaws
 pub mod Best
 pub mod Asked
 pub mod HalfLaws

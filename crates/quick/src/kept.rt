@@ -119,14 +119,17 @@ fn keep(numbers: &[u32], room: &mut [u16], half: Half, part: Rectangle) -> Place
         }
         i += 1;
     }
-    Places {
-        from: to,
-        to: end,
-    }
+    Places { from: to, to: end }
 }
 
 // A part of a half, with its edges and the count at its south-west corner.
-pub(crate) fn part_of(numbers: &[u32], room: &mut [u16], half: Half, part: Rectangle, odd: bool) -> Half
+pub(crate) fn part_of(
+    numbers: &[u32],
+    room: &mut [u16],
+    half: Half,
+    part: Rectangle,
+    odd: bool,
+) -> Half
     requires { ⌜ Sound (now numbers) (now room) half ⌝ }
     requires { ⌜ Part half part ⌝ }
     requires { ⌜ odd ≡ oddAt (now numbers) (southWest part) ⌝ }
