@@ -15,7 +15,7 @@ use Rattle.ground.specs.declared.Cell.{Cell}
 use Rattle.ground.specs.Levels.{latEnd, lonEnd}
 use Rattle.ground.specs.Cells.{lowSide, highSide, sidesOf, centreOf, IsCell}
 use Rattle.ground.specs.CellTest.{low-below-high}
-use Rattle.ground.specs.Sides.{none-between, high-low}
+use Rattle.ground.specs.Sides.{none-between}
 use Rattle.ground.specs.Halves.{Span, low-finer, low-half, half-most, high-half, whole-half}
 use Rattle.boundary.specs.Boundary.{edgesOf, pointInside, unmet, inside}
 use Rattle.boundary.specs.Corners.{cornersOf}
@@ -98,22 +98,32 @@ abbrev pub cellOf : ℕ → Rectangle → Cell
 cellOf level r = record { level = level; west = r .west; south = r .south }
 
 module _ (corners : List Point) {level : ℕ} {r : Rectangle} (b : ByLat level 0 r) where
-  -- A half with no halvings left is the ground of a cell
+  -- A half with no halvings left has the sides of a cell of the level
+  lat-span : Span level (r .south .0) (r .north .0)
+  lat-span = let same : level - 0 / 2 ≡ level = omega arith in subst (λ (n : ℕ). Span n (r .south .0) (r .north .0)) same (b .lat)
+
+  lon-span : Span level (r .west .0) (r .east .0)
+  lon-span = let same : level - 0 / 2 ≡ level = omega arith in subst (λ (n : ℕ). Span n (r .west .0) (r .east .0)) same (b .lon)
+
+  coarse : 9 ≤ level
+  coarse = omega (arith, b .coarsest)
+
+  -- and is its ground
   ground-cell : sidesOf (cellOf level r) ≡ r
   unfolding sidesOf
   ground-cell =
-      λ i. record { west = r .west; east = record { 0 = sym (b .lon .high) i }; south = r .south; north = record { 0 = sym (b .lat .high) i } }
+      λ i. record { west = r .west; east = record { 0 = sym (lon-span .high) i }; south = r .south; north = record { 0 = sym (lat-span .high) i } }
 
   cell-cell : IsCell (cellOf level r)
   unfolding sidesOf
   cell-cell =
       record {
-        coarsest = b .coarsest;
+        coarsest = coarse;
         finest = b .finest;
-        west = b .lon .low;
-        south = b .lat .low;
-        east-end = subst (λ (n : ℕ). n ≤ lonEnd) (b .lon .high) (b .east-end);
-        north-end = subst (λ (n : ℕ). n ≤ latEnd) (b .lat .high) (b .north-end);
+        west = lon-span .low;
+        south = lat-span .low;
+        east-end = subst (λ (n : ℕ). n ≤ lonEnd) (lon-span .high) (b .east-end);
+        north-end = subst (λ (n : ℕ). n ≤ latEnd) (lat-span .high) (b .north-end);
       }
 
   -- In one direction a cell of the level that lies in it starts where it does
@@ -123,8 +133,8 @@ module _ (corners : List Point) {level : ℕ} {r : Rectangle} (b : ByLat level 0
       at : (a ≡ d) ⊎ (a < d) → d ≡ a
       at (inl k) = sym k
       at (inr k) =
-          let next : highSide level a ≤ d = none-between level (b .coarsest) (b .finest) a d (s .low) is k in
-          let none : ⊥ = omega (arith, s .high, low-below-high level d (b .coarsest) (b .finest)) in
+          let next : highSide level a ≤ d = none-between level coarse (b .finest) a d (s .low) is k in
+          let none : ⊥ = omega (arith, s .high, low-below-high level d coarse (b .finest)) in
           absurd none
 
   -- so that it is that cell
@@ -132,10 +142,10 @@ module _ (corners : List Point) {level : ℕ} {r : Rectangle} (b : ByLat level 0
   unfolding sidesOf
   only-cell d w =
       let west : d .west .0 ≡ r .west .0 =
-      one-side (b .lon) (subst (λ (n : ℕ). lowSide n (d .west .0) ≡ d .west .0) (w .of) (w .cell .west)) (w .lies .west)
+      one-side lon-span (subst (λ (n : ℕ). lowSide n (d .west .0) ≡ d .west .0) (w .of) (w .cell .west)) (w .lies .west)
       (subst (λ (n : ℕ). highSide n (d .west .0) ≤ r .east .0) (w .of) (w .lies .east)) in
       let south : d .south .0 ≡ r .south .0 =
-      one-side (b .lat) (subst (λ (n : ℕ). lowSide n (d .south .0) ≡ d .south .0) (w .of) (w .cell .south)) (w .lies .south)
+      one-side lat-span (subst (λ (n : ℕ). lowSide n (d .south .0) ≡ d .south .0) (w .of) (w .cell .south)) (w .lies .south)
       (subst (λ (n : ℕ). highSide n (d .south .0) ≤ r .north .0) (w .of) (w .lies .north)) in
       λ i. record { level = w .of i; west = record { 0 = west i }; south = record { 0 = south i } }
 
@@ -158,4 +168,132 @@ module _ (corners : List Point) {level : ℕ} {r : Rectangle} (b : ByLat level 0
       not-lefter d w (inr (k, m)) = omega (arith, w .lies .south)
 
   pub best-no-cell : (unmet r (edgesOf corners) && pointInside (centreOf r) (edgesOf corners)) ≡ false → Best corners level r Nowhere
-  best-no-cell e d w = true≢false (sym (ap (inside corners) (only-cell d w) ∙ cell-inside e) ∙ w .is)
+  best-no-cell e d w = true≢false (sym (w .is) ∙ ap (inside corners) (only-cell d w) ∙ cell-inside e)
+
+-- A length of ground in one direction that is halved: where the halves meet, and what they are
+record Halved (n a b at : ℕ) : Type 0 where
+  low : a < at
+  high : at < b
+  first : Span (n + 1) a at
+  second : Span (n + 1) at b
+
+-- It is halved at the high side of its low half, where that is not its own
+halved : (n : ℕ) → 9 ≤ n → n < 27 → {a b at : ℕ} → Span n a b → at ≡ highSide (n + 1) a → (at ≡ b → ⊥) → Halved n a b at
+halved n coarsest finest {a} {b} {at} s e other =
+    let most : at ≤ b = subst (λ (x : ℕ). x ≤ b) (sym e) (half-most n coarsest finest s) in
+    let less : at < b = below (eq-or-lt-of-le most) in
+    record {
+      low = subst (λ (x : ℕ). a < x) (sym e) (low-below-high (n + 1) a (omega arith) (omega arith));
+      high = less;
+      first = subst (λ (x : ℕ). Span (n + 1) a x) (sym e) (low-half n coarsest finest s);
+      second = subst (λ (x : ℕ). Span (n + 1) x b) (sym e) (high-half n coarsest finest s (subst (λ (x : ℕ). x < b) e less));
+    }
+  where
+    below : (at ≡ b) ⊎ (at < b) → at < b
+    below (inl k) = absurd (other k)
+    below (inr k) = k
+
+-- The halves of ground by latitude
+pub record LatHalves (level left : ℕ) (r : Rectangle) (at : Lat) : Type 0 where
+  pub between : (r .south .0 < at .0) × (at .0 < r .north .0)
+  pub side : lowSide level (at .0) ≡ at .0
+  pub south : ByLon level (left - 1) (southOf r at)
+  pub north : ByLon level (left - 1) (northOf r at)
+
+module _ {level left : ℕ} {r : Rectangle} (b : ByLat level left r) (some : 0 < left) {at : Lat}
+    (e : at .0 ≡ highSide (level - left / 2 + 1) (r .south .0)) where
+  -- One halving less is left, and latitude is one level finer
+  finer-lat : level - left / 2 + 1 ≡ level - (left - 1) / 2
+  finer-lat = omega (arith, b .even, b .coarsest)
+
+  same-lon : level - left / 2 ≡ level - (left - 1) / 2 - 1
+  same-lon = omega (arith, b .even, b .coarsest)
+
+  by-lon-of : {south north : Lat} → Span (level - left / 2 + 1) (south .0) (north .0) → north .0 ≤ latEnd
+      → ByLon level (left - 1) (record { west = r .west; east = r .east; south = south; north = north })
+  by-lon-of {south} {north} s end =
+      record {
+        odd = omega (arith, b .even);
+        coarsest = omega (arith, b .even, b .coarsest);
+        finest = b .finest;
+        lat = subst (λ (n : ℕ). Span n (south .0) (north .0)) finer-lat s;
+        lon = subst (λ (n : ℕ). Span n (r .west .0) (r .east .0)) same-lon (b .lon);
+        north-end = end;
+        east-end = b .east-end;
+      }
+
+  -- Ground that is halved by latitude
+  pub lat-halved : (at .0 ≡ r .north .0 → ⊥) → LatHalves level left r at
+  lat-halved other =
+      let h = halved (level - left / 2) (omega (arith, b .coarsest)) (omega (arith, b .even, b .finest)) (b .lat) e other in
+      record {
+        between = (h .low, h .high);
+        side = low-finer (level - left / 2 + 1) level (at .0) (omega (arith, b .coarsest)) (omega (arith, b .even)) (b .finest) (h .second .low);
+        south = by-lon-of (h .first) (omega (arith, h .high, b .north-end));
+        north = by-lon-of (h .second) (b .north-end);
+      }
+
+  -- and ground that is not
+  pub lat-whole : at .0 ≡ r .north .0 → ByLon level (left - 1) r
+  lat-whole same =
+      by-lon-of (whole-half (level - left / 2) (omega (arith, b .coarsest)) (omega (arith, b .even, b .finest)) (b .lat) (sym e ∙ same))
+      (b .north-end)
+
+  -- It is halved at or before its north side
+  pub lat-most : at .0 ≤ latEnd
+  lat-most =
+      omega (arith, b .north-end, e, half-most (level - left / 2) (omega (arith, b .coarsest)) (omega (arith, b .even, b .finest)) (b .lat))
+
+-- The halves of ground by longitude
+pub record LonHalves (level left : ℕ) (r : Rectangle) (at : Lon) : Type 0 where
+  pub between : (r .west .0 < at .0) × (at .0 < r .east .0)
+  pub side : lowSide level (at .0) ≡ at .0
+  pub west : ByLat level (left - 1) (westOf r at)
+  pub east : ByLat level (left - 1) (eastOf r at)
+
+module _ {level left : ℕ} {r : Rectangle} (b : ByLon level left r) {at : Lon} (e : at .0 ≡ highSide (level - left / 2) (r .west .0)) where
+  -- One halving less is left, and longitude is one level finer
+  finer-lon : level - left / 2 - 1 + 1 ≡ level - left / 2
+  finer-lon = omega (arith, b .coarsest)
+
+  same-lat : level - left / 2 ≡ level - (left - 1) / 2
+  same-lat = omega (arith, b .odd)
+
+  split-lon : at .0 ≡ highSide (level - left / 2 - 1 + 1) (r .west .0)
+  split-lon = e ∙ ap (λ (n : ℕ). highSide n (r .west .0)) (sym finer-lon)
+
+  by-lat-of : {west east : Lon} → Span (level - left / 2 - 1 + 1) (west .0) (east .0) → east .0 ≤ lonEnd
+      → ByLat level (left - 1) (record { west = west; east = east; south = r .south; north = r .north })
+  by-lat-of {west} {east} s end =
+      record {
+        even = omega (arith, b .odd);
+        coarsest = omega (arith, b .odd, b .coarsest);
+        finest = b .finest;
+        lat = subst (λ (n : ℕ). Span n (r .south .0) (r .north .0)) same-lat (b .lat);
+        lon = subst (λ (n : ℕ). Span n (west .0) (east .0)) (finer-lon ∙ same-lat) s;
+        north-end = b .north-end;
+        east-end = end;
+      }
+
+  -- Ground that is halved by longitude
+  pub lon-halved : (at .0 ≡ r .east .0 → ⊥) → LonHalves level left r at
+  lon-halved other =
+      let h = halved (level - left / 2 - 1) (omega (arith, b .coarsest)) (omega (arith, b .coarsest, b .finest)) (b .lon) split-lon other in
+      record {
+        between = (h .low, h .high);
+        side =
+            low-finer (level - left / 2 - 1 + 1) level (at .0) (omega (arith, b .coarsest)) (omega (arith, b .coarsest)) (b .finest) (h .second .low);
+        west = by-lat-of (h .first) (omega (arith, h .high, b .east-end));
+        east = by-lat-of (h .second) (b .east-end);
+      }
+
+  -- and ground that is not
+  pub lon-whole : at .0 ≡ r .east .0 → ByLat level (left - 1) r
+  lon-whole same =
+      by-lat-of (whole-half (level - left / 2 - 1) (omega (arith, b .coarsest)) (omega (arith, b .coarsest, b .finest)) (b .lon) (sym split-lon ∙ same))
+      (b .east-end)
+
+  -- It is halved at or before its east side
+  pub lon-most : at .0 ≤ lonEnd
+  lon-most =
+      omega (arith, b .east-end, split-lon, half-most (level - left / 2 - 1) (omega (arith, b .coarsest)) (omega (arith, b .coarsest, b .finest)) (b .lon))

@@ -24,7 +24,7 @@ use Rattle.quick.specs.declared.half.Half.{Half}
 use Rattle.quick.specs.Kept.{gather, keptIn, Same, southWest, oddAt, Placed, Sound, Part, Listed}
 
 -- Rooms that have the same entries from a place on have the same gathered
-gather-same : (room later : List ℕ) (n i : ℕ) → ((j : ℕ) → i ≤ j → j < i + n → getD later j 0 ≡ getD room j 0)
+pub gather-same : (room later : List ℕ) (n i : ℕ) → ((j : ℕ) → i ≤ j → j < i + n → getD later j 0 ≡ getD room j 0)
     → gather later n i ≡ gather room n i
 gather-same room later zero i h = refl
 gather-same room later (suc n) i h =
@@ -274,3 +274,22 @@ module _ {numbers lent : List ℕ} where
         first = s .placed .first;
         last = omega (arith, m .first, m .last);
       }
+
+-- What is known of a half stays so in a later room with the same entries before its last
+pub sound-same : {numbers room later : List ℕ} {h : Half} → Sound numbers room h → Same (h .to) room later → length later ≡ length room
+    → Sound numbers later h
+sound-same {numbers} {room} {later} {h} s same long =
+    let entries = gather-same room later (h .to - h .from) (h .from) (λ j p q. same j (omega (arith, s .placed .first))) in
+    record {
+      wide = s .wide;
+      placed = record {
+        keeps = subst (λ (l : List ℕ). Keeps (cornersOf numbers) (h .ground) (map (edgeAt numbers) l)) (sym entries) (s .placed .keeps);
+        first = s .placed .first;
+        last = subst (λ (n : ℕ). h .to ≤ n) (sym long) (s .placed .last);
+      };
+      odd = s .odd;
+    }
+
+-- Entries that stay the same, and then again
+pub same-then : (room later latest : List ℕ) {to last : ℕ} → to ≤ last → Same to room later → Same last later latest → Same to room latest
+same-then room later latest most first then j h = then j (omega arith) ∙ first j h

@@ -1,23 +1,20 @@
+-- `quick::halves::lon_split` meets its contract: ground is halved within the range, so the side fits. Assumes nothing.
+use native.Mathlib.Omega.{arith}
 use borrow.Author.Needs.{needs}
+use Rattle.ground.specs.Levels.{lon}
+use Rattle.quick.specs.HalfLaws.{lon-most}
 use Rattle.quick.proofs.halves.lon_split.Statement.{statement}
 use Rattle.quick.proofs.halves.lon_split.Tie as tie
-use Rattle.quick.proofs.halves.lon_split.Reads as reads
-use Rattle.quick.proofs.halves.lon_split.Lts as lts
-use Rattle.ground.proofs.high_side.Reads as high-side-reads
 
--- src/halves.rt:37:27
 sub-high-side : tie.Need-sub-high-side
 sub-high-side c = search needs
 
--- src/halves.rt:37:9
 high-side-requires : tie.Need-high-side-requires
 high-side-requires c κs = search needs
 
--- src/halves.rt:37:9
 cast-t8 : tie.Need-cast-t8
-cast-t8 c = ?
+cast-t8 c = omega (arith, lon-most (c .before .before .pre) {at = lon (c .high-side .result)} (c .high-side .ensures))
 
--- src/halves.rt:32:1
 returns : tie.Need-returns
 returns c = search needs
 

@@ -1,36 +1,49 @@
+-- `quick::halves::north_half` meets its contract: a part whose south-west corner lies in the half. Assumes nothing.
+use mathlib.Core.Path.{sym, ap, subst, _∙_}
 use borrow.Author.Needs.{needs}
+use Rattle.ground.specs.declared.Point.{Point}
+use Rattle.boundary.specs.Parity.{Lies}
+use Rattle.quick.specs.Kept.{Part, oddAt}
+use Rattle.quick.specs.HalfLaws.{north-part, corner-lies}
 use Rattle.quick.proofs.halves.north_half.Statement.{statement}
 use Rattle.quick.proofs.halves.north_half.Tie as tie
-use Rattle.quick.proofs.halves.north_half.Reads as reads
-use Rattle.quick.proofs.halves.north_half.Lts as lts
-use Rattle.quick.proofs.half.corner_of.Reads as corner-of-reads
-use Rattle.quick.proofs.half.north_of.Reads as north-of-reads
-use Rattle.quick.proofs.kept.odd_at.Reads as odd-at-reads
-use Rattle.quick.proofs.kept.part_of.Reads as part-of-reads
 
--- src/halves.rt:57:9
+-- what lies beyond is a part of the half
+part : (c : tie.After-north-of) → Part (c .before .before .before .args .half) (c .north-of .result)
+part c =
+    let start = c .before .before .before in
+    subst (Part (start .args .half)) (sym (c .north-of .ensures)) (north-part (start .pre .0) (start .args .at) (start .pre .1))
+
 north-of-requires : tie.Need-north-of-requires
 north-of-requires c κs = search needs
 
--- src/halves.rt:58:43
 corner-of-requires : tie.Need-corner-of-requires
 corner-of-requires c κs = search needs
 
--- src/halves.rt:58:9
 odd-at-requires : tie.Need-odd-at-requires
-odd-at-requires c κs = ?
+odd-at-requires c κs =
+    let made = c .before .before in
+    let start = made .before .before .before in
+    (start .pre .0, subst (Lies (start .args .half .ground)) (sym (c .corner-of .ensures)) (corner-lies (start .pre .0) (part made)))
 
--- src/halves.rt:59:5
 part-of-requires : tie.Need-part-of-requires
-part-of-requires c κs = ?
+part-of-requires c κs =
+    let told = c .before in
+    let made = told .before .before .before in
+    let start = made .before .before .before in
+    (
+      start .pre .0,
+      (part made, told .odd-at .ensures ∙ ap (λ (p : Point). oddAt (start .args .numbers .now) p) (told .before .corner-of .ensures)),
+    )
 
--- src/halves.rt:51:1
 same-length : tie.Need-same-length
 same-length c = search needs
 
--- src/halves.rt:51:1
 returns : tie.Need-returns
-returns c = ?
+returns c =
+    let told = c .before .before .before .before in
+    let made = c .before .before .part-of .ensures in
+    ((made .0 .0 ∙ told .before .before .before .north-of .ensures, made .0 .1), made .1)
 
 pub north-half-spec : {M : Type 1} → statement M
 north-half-spec =

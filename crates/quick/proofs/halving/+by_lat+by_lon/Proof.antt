@@ -1,6 +1,20 @@
+-- `quick::halving::by_lat` and `by_lon` meet their contracts, in one proof by the halvings that are left: passing over and the cell at the
+-- end give the answer, and the answers for two halves make that for the whole. Assumes nothing.
 use Prim.Native.Nat.{ℕ, _<_}
+use native.Mathlib.Omega.{arith}
+use mathlib.Core.Path.{_≡_, sym, subst, _∙_}
+use mathlib.Core.Bool.{true}
+use borrow.Author.Needs.{needs}
 use borrow.Fn.Kinds.{In}
 use borrow.Fn.PlainCycle.{Measures, is, falls, and}
+use Rattle.ground.specs.declared.Rectangle.{Rectangle}
+use Rattle.boundary.specs.Corners.{cornersOf}
+use Rattle.unit.specs.declared.Choice.{Choice}
+use Rattle.unit.specs.declared.Choice.the-variants.{At, Nowhere}
+use Rattle.quick.specs.KeptLaws.{sound-same, same-then}
+use Rattle.quick.specs.Best.{Best, passed-none, best-lat, best-lon}
+use Rattle.quick.specs.Asked.{ByLat, ByLon}
+use Rattle.quick.specs.HalfLaws.{LatHalves, lat-halved, lat-whole, LonHalves, lon-halved, lon-whole}
 use Rattle.quick.proofs.halving.by_lat.Reads as by-lat
 use Rattle.quick.proofs.halving.by_lat.Kinds as by-lat-kinds
 use Rattle.quick.proofs.halving.+by_lat+by_lon.Lts-by_lat as by-lat-lts
@@ -19,11 +33,12 @@ use Rattle.quick.proofs.halving.tried.Reads as tried-reads
 use Rattle.quick.proofs.halving.+by_lat+by_lon.{statement}
 use Rattle.quick.proofs.halving.+by_lat+by_lon.Tie.{close}
 
+-- The halvings that are left
 abbrev μ-by-lat : Measures 2 by-lat-kinds.ps ℕ
-μ-by-lat κs a = ?
+μ-by-lat κs a = a .1 .1 .1 .1 .0
 
 abbrev μ-by-lon : Measures 2 by-lon-kinds.ps ℕ
-μ-by-lon κs a = ?
+μ-by-lon κs a = a .1 .1 .1 .1 .0
 
 abbrev by-lat-at : ℕ → In 2 by-lat-kinds.ps
 by-lat-at t = and 2 by-lat-kinds.ps (is 2 by-lat-kinds.ps μ-by-lat t) by-lat.Pre
@@ -37,687 +52,9 @@ by-lon-at t = and 2 by-lon-kinds.ps (is 2 by-lon-kinds.ps μ-by-lon t) by-lon.Pr
 abbrev by-lon-below : ℕ → In 2 by-lon-kinds.ps
 by-lon-below t = and 2 by-lon-kinds.ps (falls 2 by-lon-kinds.ps _<_ μ-by-lon t) by-lon.Pre
 
--- src/halving.rt:68:8
-by-lat-passed-over-requires : (t : ℕ) → by-lat-lts.Need-passed-over-requires (
-  passed-over-reads.Asked,
-  passed-over-reads.Learnt,
-  tried-reads.Asked,
-  tried-reads.Learnt,
-  lat-split-reads.Asked,
-  lat-split-reads.Learnt,
-  by-lon-below t,
-  by-lon.Post,
-  south-half-reads.Asked,
-  south-half-reads.Learnt,
-  north-half-reads.Asked,
-  north-half-reads.Learnt,
-  lefter-reads.Asked,
-  lefter-reads.Learnt,
-) (by-lat-at t) by-lat.Post
-by-lat-passed-over-requires t c κs = ?
-
--- src/halving.rt:69:9
-by-lat-same-length : (t : ℕ) → by-lat-lts.Need-same-length (
-  passed-over-reads.Asked,
-  passed-over-reads.Learnt,
-  tried-reads.Asked,
-  tried-reads.Learnt,
-  lat-split-reads.Asked,
-  lat-split-reads.Learnt,
-  by-lon-below t,
-  by-lon.Post,
-  south-half-reads.Asked,
-  south-half-reads.Learnt,
-  north-half-reads.Asked,
-  north-half-reads.Learnt,
-  lefter-reads.Asked,
-  lefter-reads.Learnt,
-) (by-lat-at t) by-lat.Post
-by-lat-same-length t c = ?
-
--- src/halving.rt:69:9
-by-lat-returns : (t : ℕ) → by-lat-lts.Need-returns (
-  passed-over-reads.Asked,
-  passed-over-reads.Learnt,
-  tried-reads.Asked,
-  tried-reads.Learnt,
-  lat-split-reads.Asked,
-  lat-split-reads.Learnt,
-  by-lon-below t,
-  by-lon.Post,
-  south-half-reads.Asked,
-  south-half-reads.Learnt,
-  north-half-reads.Asked,
-  north-half-reads.Learnt,
-  lefter-reads.Asked,
-  lefter-reads.Learnt,
-) (by-lat-at t) by-lat.Post
-by-lat-returns t c = ?
-
--- src/halving.rt:72:9
-by-lat-tried-requires : (t : ℕ) → by-lat-lts.Need-tried-requires (
-  passed-over-reads.Asked,
-  passed-over-reads.Learnt,
-  tried-reads.Asked,
-  tried-reads.Learnt,
-  lat-split-reads.Asked,
-  lat-split-reads.Learnt,
-  by-lon-below t,
-  by-lon.Post,
-  south-half-reads.Asked,
-  south-half-reads.Learnt,
-  north-half-reads.Asked,
-  north-half-reads.Learnt,
-  lefter-reads.Asked,
-  lefter-reads.Learnt,
-) (by-lat-at t) by-lat.Post
-by-lat-tried-requires t c κs = ?
-
--- src/halving.rt:72:9
-by-lat-same-length-2 : (t : ℕ) → by-lat-lts.Need-same-length-2 (
-  passed-over-reads.Asked,
-  passed-over-reads.Learnt,
-  tried-reads.Asked,
-  tried-reads.Learnt,
-  lat-split-reads.Asked,
-  lat-split-reads.Learnt,
-  by-lon-below t,
-  by-lon.Post,
-  south-half-reads.Asked,
-  south-half-reads.Learnt,
-  north-half-reads.Asked,
-  north-half-reads.Learnt,
-  lefter-reads.Asked,
-  lefter-reads.Learnt,
-) (by-lat-at t) by-lat.Post
-by-lat-same-length-2 t c = ?
-
--- src/halving.rt:72:9
-by-lat-returns-2 : (t : ℕ) → by-lat-lts.Need-returns-2 (
-  passed-over-reads.Asked,
-  passed-over-reads.Learnt,
-  tried-reads.Asked,
-  tried-reads.Learnt,
-  lat-split-reads.Asked,
-  lat-split-reads.Learnt,
-  by-lon-below t,
-  by-lon.Post,
-  south-half-reads.Asked,
-  south-half-reads.Learnt,
-  north-half-reads.Asked,
-  north-half-reads.Learnt,
-  lefter-reads.Asked,
-  lefter-reads.Learnt,
-) (by-lat-at t) by-lat.Post
-by-lat-returns-2 t c = ?
-
--- src/halving.rt:76:9
-by-lat-lat-split-requires : (t : ℕ) → by-lat-lts.Need-lat-split-requires (
-  passed-over-reads.Asked,
-  passed-over-reads.Learnt,
-  tried-reads.Asked,
-  tried-reads.Learnt,
-  lat-split-reads.Asked,
-  lat-split-reads.Learnt,
-  by-lon-below t,
-  by-lon.Post,
-  south-half-reads.Asked,
-  south-half-reads.Learnt,
-  north-half-reads.Asked,
-  north-half-reads.Learnt,
-  lefter-reads.Asked,
-  lefter-reads.Learnt,
-) (by-lat-at t) by-lat.Post
-by-lat-lat-split-requires t c κs = ?
-
--- src/halving.rt:78:51
-by-lat-sub-by-lon : (t : ℕ) → by-lat-lts.Need-sub-by-lon (
-  passed-over-reads.Asked,
-  passed-over-reads.Learnt,
-  tried-reads.Asked,
-  tried-reads.Learnt,
-  lat-split-reads.Asked,
-  lat-split-reads.Learnt,
-  by-lon-below t,
-  by-lon.Post,
-  south-half-reads.Asked,
-  south-half-reads.Learnt,
-  north-half-reads.Asked,
-  north-half-reads.Learnt,
-  lefter-reads.Asked,
-  lefter-reads.Learnt,
-) (by-lat-at t) by-lat.Post
-by-lat-sub-by-lon t c = ?
-
--- src/halving.rt:78:9
-by-lat-by-lon-requires : (t : ℕ) → by-lat-lts.Need-by-lon-requires (
-  passed-over-reads.Asked,
-  passed-over-reads.Learnt,
-  tried-reads.Asked,
-  tried-reads.Learnt,
-  lat-split-reads.Asked,
-  lat-split-reads.Learnt,
-  by-lon-below t,
-  by-lon.Post,
-  south-half-reads.Asked,
-  south-half-reads.Learnt,
-  north-half-reads.Asked,
-  north-half-reads.Learnt,
-  lefter-reads.Asked,
-  lefter-reads.Learnt,
-) (by-lat-at t) by-lat.Post
-by-lat-by-lon-requires t c κs = ?
-
--- src/halving.rt:78:9
-by-lat-same-length-3 : (t : ℕ) → by-lat-lts.Need-same-length-3 (
-  passed-over-reads.Asked,
-  passed-over-reads.Learnt,
-  tried-reads.Asked,
-  tried-reads.Learnt,
-  lat-split-reads.Asked,
-  lat-split-reads.Learnt,
-  by-lon-below t,
-  by-lon.Post,
-  south-half-reads.Asked,
-  south-half-reads.Learnt,
-  north-half-reads.Asked,
-  north-half-reads.Learnt,
-  lefter-reads.Asked,
-  lefter-reads.Learnt,
-) (by-lat-at t) by-lat.Post
-by-lat-same-length-3 t c = ?
-
--- src/halving.rt:78:9
-by-lat-returns-3 : (t : ℕ) → by-lat-lts.Need-returns-3 (
-  passed-over-reads.Asked,
-  passed-over-reads.Learnt,
-  tried-reads.Asked,
-  tried-reads.Learnt,
-  lat-split-reads.Asked,
-  lat-split-reads.Learnt,
-  by-lon-below t,
-  by-lon.Post,
-  south-half-reads.Asked,
-  south-half-reads.Learnt,
-  north-half-reads.Asked,
-  north-half-reads.Learnt,
-  lefter-reads.Asked,
-  lefter-reads.Learnt,
-) (by-lat-at t) by-lat.Post
-by-lat-returns-3 t c = ?
-
--- src/halving.rt:80:9
-by-lat-south-half-requires : (t : ℕ) → by-lat-lts.Need-south-half-requires (
-  passed-over-reads.Asked,
-  passed-over-reads.Learnt,
-  tried-reads.Asked,
-  tried-reads.Learnt,
-  lat-split-reads.Asked,
-  lat-split-reads.Learnt,
-  by-lon-below t,
-  by-lon.Post,
-  south-half-reads.Asked,
-  south-half-reads.Learnt,
-  north-half-reads.Asked,
-  north-half-reads.Learnt,
-  lefter-reads.Asked,
-  lefter-reads.Learnt,
-) (by-lat-at t) by-lat.Post
-by-lat-south-half-requires t c κs = ?
-
--- src/halving.rt:81:51
-by-lat-sub-by-lon-2 : (t : ℕ) → by-lat-lts.Need-sub-by-lon-2 (
-  passed-over-reads.Asked,
-  passed-over-reads.Learnt,
-  tried-reads.Asked,
-  tried-reads.Learnt,
-  lat-split-reads.Asked,
-  lat-split-reads.Learnt,
-  by-lon-below t,
-  by-lon.Post,
-  south-half-reads.Asked,
-  south-half-reads.Learnt,
-  north-half-reads.Asked,
-  north-half-reads.Learnt,
-  lefter-reads.Asked,
-  lefter-reads.Learnt,
-) (by-lat-at t) by-lat.Post
-by-lat-sub-by-lon-2 t c = ?
-
--- src/halving.rt:81:9
-by-lat-by-lon-requires-2 : (t : ℕ) → by-lat-lts.Need-by-lon-requires-2 (
-  passed-over-reads.Asked,
-  passed-over-reads.Learnt,
-  tried-reads.Asked,
-  tried-reads.Learnt,
-  lat-split-reads.Asked,
-  lat-split-reads.Learnt,
-  by-lon-below t,
-  by-lon.Post,
-  south-half-reads.Asked,
-  south-half-reads.Learnt,
-  north-half-reads.Asked,
-  north-half-reads.Learnt,
-  lefter-reads.Asked,
-  lefter-reads.Learnt,
-) (by-lat-at t) by-lat.Post
-by-lat-by-lon-requires-2 t c κs = ?
-
--- src/halving.rt:82:9
-by-lat-north-half-requires : (t : ℕ) → by-lat-lts.Need-north-half-requires (
-  passed-over-reads.Asked,
-  passed-over-reads.Learnt,
-  tried-reads.Asked,
-  tried-reads.Learnt,
-  lat-split-reads.Asked,
-  lat-split-reads.Learnt,
-  by-lon-below t,
-  by-lon.Post,
-  south-half-reads.Asked,
-  south-half-reads.Learnt,
-  north-half-reads.Asked,
-  north-half-reads.Learnt,
-  lefter-reads.Asked,
-  lefter-reads.Learnt,
-) (by-lat-at t) by-lat.Post
-by-lat-north-half-requires t c κs = ?
-
--- src/halving.rt:83:54
-by-lat-sub-by-lon-3 : (t : ℕ) → by-lat-lts.Need-sub-by-lon-3 (
-  passed-over-reads.Asked,
-  passed-over-reads.Learnt,
-  tried-reads.Asked,
-  tried-reads.Learnt,
-  lat-split-reads.Asked,
-  lat-split-reads.Learnt,
-  by-lon-below t,
-  by-lon.Post,
-  south-half-reads.Asked,
-  south-half-reads.Learnt,
-  north-half-reads.Asked,
-  north-half-reads.Learnt,
-  lefter-reads.Asked,
-  lefter-reads.Learnt,
-) (by-lat-at t) by-lat.Post
-by-lat-sub-by-lon-3 t c = ?
-
--- src/halving.rt:83:19
-by-lat-by-lon-requires-3 : (t : ℕ) → by-lat-lts.Need-by-lon-requires-3 (
-  passed-over-reads.Asked,
-  passed-over-reads.Learnt,
-  tried-reads.Asked,
-  tried-reads.Learnt,
-  lat-split-reads.Asked,
-  lat-split-reads.Learnt,
-  by-lon-below t,
-  by-lon.Post,
-  south-half-reads.Asked,
-  south-half-reads.Learnt,
-  north-half-reads.Asked,
-  north-half-reads.Learnt,
-  lefter-reads.Asked,
-  lefter-reads.Learnt,
-) (by-lat-at t) by-lat.Post
-by-lat-by-lon-requires-3 t c κs = ?
-
--- src/halving.rt:83:5
-by-lat-lefter-requires : (t : ℕ) → by-lat-lts.Need-lefter-requires (
-  passed-over-reads.Asked,
-  passed-over-reads.Learnt,
-  tried-reads.Asked,
-  tried-reads.Learnt,
-  lat-split-reads.Asked,
-  lat-split-reads.Learnt,
-  by-lon-below t,
-  by-lon.Post,
-  south-half-reads.Asked,
-  south-half-reads.Learnt,
-  north-half-reads.Asked,
-  north-half-reads.Learnt,
-  lefter-reads.Asked,
-  lefter-reads.Learnt,
-) (by-lat-at t) by-lat.Post
-by-lat-lefter-requires t c κs = ?
-
--- src/halving.rt:62:1
-by-lat-same-length-4 : (t : ℕ) → by-lat-lts.Need-same-length-4 (
-  passed-over-reads.Asked,
-  passed-over-reads.Learnt,
-  tried-reads.Asked,
-  tried-reads.Learnt,
-  lat-split-reads.Asked,
-  lat-split-reads.Learnt,
-  by-lon-below t,
-  by-lon.Post,
-  south-half-reads.Asked,
-  south-half-reads.Learnt,
-  north-half-reads.Asked,
-  north-half-reads.Learnt,
-  lefter-reads.Asked,
-  lefter-reads.Learnt,
-) (by-lat-at t) by-lat.Post
-by-lat-same-length-4 t c = ?
-
--- src/halving.rt:62:1
-by-lat-returns-4 : (t : ℕ) → by-lat-lts.Need-returns-4 (
-  passed-over-reads.Asked,
-  passed-over-reads.Learnt,
-  tried-reads.Asked,
-  tried-reads.Learnt,
-  lat-split-reads.Asked,
-  lat-split-reads.Learnt,
-  by-lon-below t,
-  by-lon.Post,
-  south-half-reads.Asked,
-  south-half-reads.Learnt,
-  north-half-reads.Asked,
-  north-half-reads.Learnt,
-  lefter-reads.Asked,
-  lefter-reads.Learnt,
-) (by-lat-at t) by-lat.Post
-by-lat-returns-4 t c = ?
-
--- src/halving.rt:93:8
-by-lon-passed-over-requires : (t : ℕ) → by-lon-lts.Need-passed-over-requires (
-  passed-over-reads.Asked,
-  passed-over-reads.Learnt,
-  lon-split-reads.Asked,
-  lon-split-reads.Learnt,
-  by-lat-below t,
-  by-lat.Post,
-  west-half-reads.Asked,
-  west-half-reads.Learnt,
-  east-half-reads.Asked,
-  east-half-reads.Learnt,
-) (by-lon-at t) by-lon.Post
-by-lon-passed-over-requires t c κs = ?
-
--- src/halving.rt:94:9
-by-lon-same-length : (t : ℕ) → by-lon-lts.Need-same-length (
-  passed-over-reads.Asked,
-  passed-over-reads.Learnt,
-  lon-split-reads.Asked,
-  lon-split-reads.Learnt,
-  by-lat-below t,
-  by-lat.Post,
-  west-half-reads.Asked,
-  west-half-reads.Learnt,
-  east-half-reads.Asked,
-  east-half-reads.Learnt,
-) (by-lon-at t) by-lon.Post
-by-lon-same-length t c = ?
-
--- src/halving.rt:94:9
-by-lon-returns : (t : ℕ) → by-lon-lts.Need-returns (
-  passed-over-reads.Asked,
-  passed-over-reads.Learnt,
-  lon-split-reads.Asked,
-  lon-split-reads.Learnt,
-  by-lat-below t,
-  by-lat.Post,
-  west-half-reads.Asked,
-  west-half-reads.Learnt,
-  east-half-reads.Asked,
-  east-half-reads.Learnt,
-) (by-lon-at t) by-lon.Post
-by-lon-returns t c = ?
-
--- src/halving.rt:98:9
-by-lon-lon-split-requires : (t : ℕ) → by-lon-lts.Need-lon-split-requires (
-  passed-over-reads.Asked,
-  passed-over-reads.Learnt,
-  lon-split-reads.Asked,
-  lon-split-reads.Learnt,
-  by-lat-below t,
-  by-lat.Post,
-  west-half-reads.Asked,
-  west-half-reads.Learnt,
-  east-half-reads.Asked,
-  east-half-reads.Learnt,
-) (by-lon-at t) by-lon.Post
-by-lon-lon-split-requires t c κs = ?
-
--- src/halving.rt:100:51
-by-lon-sub-by-lat : (t : ℕ) → by-lon-lts.Need-sub-by-lat (
-  passed-over-reads.Asked,
-  passed-over-reads.Learnt,
-  lon-split-reads.Asked,
-  lon-split-reads.Learnt,
-  by-lat-below t,
-  by-lat.Post,
-  west-half-reads.Asked,
-  west-half-reads.Learnt,
-  east-half-reads.Asked,
-  east-half-reads.Learnt,
-) (by-lon-at t) by-lon.Post
-by-lon-sub-by-lat t c = ?
-
--- src/halving.rt:100:9
-by-lon-by-lat-requires : (t : ℕ) → by-lon-lts.Need-by-lat-requires (
-  passed-over-reads.Asked,
-  passed-over-reads.Learnt,
-  lon-split-reads.Asked,
-  lon-split-reads.Learnt,
-  by-lat-below t,
-  by-lat.Post,
-  west-half-reads.Asked,
-  west-half-reads.Learnt,
-  east-half-reads.Asked,
-  east-half-reads.Learnt,
-) (by-lon-at t) by-lon.Post
-by-lon-by-lat-requires t c κs = ?
-
--- src/halving.rt:100:9
-by-lon-same-length-2 : (t : ℕ) → by-lon-lts.Need-same-length-2 (
-  passed-over-reads.Asked,
-  passed-over-reads.Learnt,
-  lon-split-reads.Asked,
-  lon-split-reads.Learnt,
-  by-lat-below t,
-  by-lat.Post,
-  west-half-reads.Asked,
-  west-half-reads.Learnt,
-  east-half-reads.Asked,
-  east-half-reads.Learnt,
-) (by-lon-at t) by-lon.Post
-by-lon-same-length-2 t c = ?
-
--- src/halving.rt:100:9
-by-lon-returns-2 : (t : ℕ) → by-lon-lts.Need-returns-2 (
-  passed-over-reads.Asked,
-  passed-over-reads.Learnt,
-  lon-split-reads.Asked,
-  lon-split-reads.Learnt,
-  by-lat-below t,
-  by-lat.Post,
-  west-half-reads.Asked,
-  west-half-reads.Learnt,
-  east-half-reads.Asked,
-  east-half-reads.Learnt,
-) (by-lon-at t) by-lon.Post
-by-lon-returns-2 t c = ?
-
--- src/halving.rt:102:9
-by-lon-west-half-requires : (t : ℕ) → by-lon-lts.Need-west-half-requires (
-  passed-over-reads.Asked,
-  passed-over-reads.Learnt,
-  lon-split-reads.Asked,
-  lon-split-reads.Learnt,
-  by-lat-below t,
-  by-lat.Post,
-  west-half-reads.Asked,
-  west-half-reads.Learnt,
-  east-half-reads.Asked,
-  east-half-reads.Learnt,
-) (by-lon-at t) by-lon.Post
-by-lon-west-half-requires t c κs = ?
-
--- src/halving.rt:103:51
-by-lon-sub-by-lat-2 : (t : ℕ) → by-lon-lts.Need-sub-by-lat-2 (
-  passed-over-reads.Asked,
-  passed-over-reads.Learnt,
-  lon-split-reads.Asked,
-  lon-split-reads.Learnt,
-  by-lat-below t,
-  by-lat.Post,
-  west-half-reads.Asked,
-  west-half-reads.Learnt,
-  east-half-reads.Asked,
-  east-half-reads.Learnt,
-) (by-lon-at t) by-lon.Post
-by-lon-sub-by-lat-2 t c = ?
-
--- src/halving.rt:103:9
-by-lon-by-lat-requires-2 : (t : ℕ) → by-lon-lts.Need-by-lat-requires-2 (
-  passed-over-reads.Asked,
-  passed-over-reads.Learnt,
-  lon-split-reads.Asked,
-  lon-split-reads.Learnt,
-  by-lat-below t,
-  by-lat.Post,
-  west-half-reads.Asked,
-  west-half-reads.Learnt,
-  east-half-reads.Asked,
-  east-half-reads.Learnt,
-) (by-lon-at t) by-lon.Post
-by-lon-by-lat-requires-2 t c κs = ?
-
--- src/halving.rt:104:23
-by-lon-enum-known-first : (t : ℕ) → by-lon-lts.Need-enum-known-first (
-  passed-over-reads.Asked,
-  passed-over-reads.Learnt,
-  lon-split-reads.Asked,
-  lon-split-reads.Learnt,
-  by-lat-below t,
-  by-lat.Post,
-  west-half-reads.Asked,
-  west-half-reads.Learnt,
-  east-half-reads.Asked,
-  east-half-reads.Learnt,
-) (by-lon-at t) by-lon.Post
-by-lon-enum-known-first t c = ?
-
--- src/halving.rt:105:9
-by-lon-same-length-3 : (t : ℕ) → by-lon-lts.Need-same-length-3 (
-  passed-over-reads.Asked,
-  passed-over-reads.Learnt,
-  lon-split-reads.Asked,
-  lon-split-reads.Learnt,
-  by-lat-below t,
-  by-lat.Post,
-  west-half-reads.Asked,
-  west-half-reads.Learnt,
-  east-half-reads.Asked,
-  east-half-reads.Learnt,
-) (by-lon-at t) by-lon.Post
-by-lon-same-length-3 t c = ?
-
--- src/halving.rt:105:9
-by-lon-returns-3 : (t : ℕ) → by-lon-lts.Need-returns-3 (
-  passed-over-reads.Asked,
-  passed-over-reads.Learnt,
-  lon-split-reads.Asked,
-  lon-split-reads.Learnt,
-  by-lat-below t,
-  by-lat.Post,
-  west-half-reads.Asked,
-  west-half-reads.Learnt,
-  east-half-reads.Asked,
-  east-half-reads.Learnt,
-) (by-lon-at t) by-lon.Post
-by-lon-returns-3 t c = ?
-
-by-lon-enum-told : (t : ℕ) → by-lon-lts.Need-enum-told (
-  passed-over-reads.Asked,
-  passed-over-reads.Learnt,
-  lon-split-reads.Asked,
-  lon-split-reads.Learnt,
-  by-lat-below t,
-  by-lat.Post,
-  west-half-reads.Asked,
-  west-half-reads.Learnt,
-  east-half-reads.Asked,
-  east-half-reads.Learnt,
-) (by-lon-at t) by-lon.Post
-by-lon-enum-told t c = ?
-
--- src/halving.rt:107:9
-by-lon-east-half-requires : (t : ℕ) → by-lon-lts.Need-east-half-requires (
-  passed-over-reads.Asked,
-  passed-over-reads.Learnt,
-  lon-split-reads.Asked,
-  lon-split-reads.Learnt,
-  by-lat-below t,
-  by-lat.Post,
-  west-half-reads.Asked,
-  west-half-reads.Learnt,
-  east-half-reads.Asked,
-  east-half-reads.Learnt,
-) (by-lon-at t) by-lon.Post
-by-lon-east-half-requires t c κs = ?
-
--- src/halving.rt:108:40
-by-lon-sub-by-lat-3 : (t : ℕ) → by-lon-lts.Need-sub-by-lat-3 (
-  passed-over-reads.Asked,
-  passed-over-reads.Learnt,
-  lon-split-reads.Asked,
-  lon-split-reads.Learnt,
-  by-lat-below t,
-  by-lat.Post,
-  west-half-reads.Asked,
-  west-half-reads.Learnt,
-  east-half-reads.Asked,
-  east-half-reads.Learnt,
-) (by-lon-at t) by-lon.Post
-by-lon-sub-by-lat-3 t c = ?
-
--- src/halving.rt:108:5
-by-lon-by-lat-requires-3 : (t : ℕ) → by-lon-lts.Need-by-lat-requires-3 (
-  passed-over-reads.Asked,
-  passed-over-reads.Learnt,
-  lon-split-reads.Asked,
-  lon-split-reads.Learnt,
-  by-lat-below t,
-  by-lat.Post,
-  west-half-reads.Asked,
-  west-half-reads.Learnt,
-  east-half-reads.Asked,
-  east-half-reads.Learnt,
-) (by-lon-at t) by-lon.Post
-by-lon-by-lat-requires-3 t c κs = ?
-
--- src/halving.rt:87:1
-by-lon-same-length-4 : (t : ℕ) → by-lon-lts.Need-same-length-4 (
-  passed-over-reads.Asked,
-  passed-over-reads.Learnt,
-  lon-split-reads.Asked,
-  lon-split-reads.Learnt,
-  by-lat-below t,
-  by-lat.Post,
-  west-half-reads.Asked,
-  west-half-reads.Learnt,
-  east-half-reads.Asked,
-  east-half-reads.Learnt,
-) (by-lon-at t) by-lon.Post
-by-lon-same-length-4 t c = ?
-
--- src/halving.rt:87:1
-by-lon-returns-4 : (t : ℕ) → by-lon-lts.Need-returns-4 (
-  passed-over-reads.Asked,
-  passed-over-reads.Learnt,
-  lon-split-reads.Asked,
-  lon-split-reads.Learnt,
-  by-lat-below t,
-  by-lat.Post,
-  west-half-reads.Asked,
-  west-half-reads.Learnt,
-  east-half-reads.Asked,
-  east-half-reads.Learnt,
-) (by-lon-at t) by-lon.Post
-by-lon-returns-4 t c = ?
-
-pub +by-lat+by-lon-spec : {M : Type 1} → statement M
-+by-lat+by-lon-spec = close μ-by-lat μ-by-lon (λ t. by-lat-lts.spec (
+-- What the functions that each of them calls ask and tell
+abbrev lat-calls : ℕ → by-lat-lts.Claims
+lat-calls t = (
   passed-over-reads.Asked,
   passed-over-reads.Learnt,
   tried-reads.Asked,
@@ -733,8 +70,145 @@ pub +by-lat+by-lon-spec : {M : Type 1} → statement M
   lefter-reads.Asked,
   lefter-reads.Learnt,
 )
-    (by-lat-at t)
-    by-lat.Post
+
+abbrev lon-calls : ℕ → by-lon-lts.Claims
+lon-calls t = (
+  passed-over-reads.Asked,
+  passed-over-reads.Learnt,
+  lon-split-reads.Asked,
+  lon-split-reads.Learnt,
+  by-lat-below t,
+  by-lat.Post,
+  west-half-reads.Asked,
+  west-half-reads.Learnt,
+  east-half-reads.Asked,
+  east-half-reads.Learnt,
+)
+
+by-lat-passed-over-requires : (t : ℕ) → by-lat-lts.Need-passed-over-requires (lat-calls t) (by-lat-at t) by-lat.Post
+by-lat-passed-over-requires t c κs = search needs
+
+by-lat-same-length : (t : ℕ) → by-lat-lts.Need-same-length (lat-calls t) (by-lat-at t) by-lat.Post
+by-lat-same-length t c = search needs
+
+by-lat-returns : (t : ℕ) → by-lat-lts.Need-returns (lat-calls t) (by-lat-at t) by-lat.Post
+by-lat-returns t c = ?
+
+by-lat-tried-requires : (t : ℕ) → by-lat-lts.Need-tried-requires (lat-calls t) (by-lat-at t) by-lat.Post
+by-lat-tried-requires t c κs = ?
+
+by-lat-same-length-2 : (t : ℕ) → by-lat-lts.Need-same-length-2 (lat-calls t) (by-lat-at t) by-lat.Post
+by-lat-same-length-2 t c = search needs
+
+by-lat-returns-2 : (t : ℕ) → by-lat-lts.Need-returns-2 (lat-calls t) (by-lat-at t) by-lat.Post
+by-lat-returns-2 t c = ?
+
+by-lat-lat-split-requires : (t : ℕ) → by-lat-lts.Need-lat-split-requires (lat-calls t) (by-lat-at t) by-lat.Post
+by-lat-lat-split-requires t c κs = ?
+
+by-lat-sub-by-lon : (t : ℕ) → by-lat-lts.Need-sub-by-lon (lat-calls t) (by-lat-at t) by-lat.Post
+by-lat-sub-by-lon t c = search needs
+
+by-lat-by-lon-requires : (t : ℕ) → by-lat-lts.Need-by-lon-requires (lat-calls t) (by-lat-at t) by-lat.Post
+by-lat-by-lon-requires t c κs = ?
+
+by-lat-same-length-3 : (t : ℕ) → by-lat-lts.Need-same-length-3 (lat-calls t) (by-lat-at t) by-lat.Post
+by-lat-same-length-3 t c = search needs
+
+by-lat-returns-3 : (t : ℕ) → by-lat-lts.Need-returns-3 (lat-calls t) (by-lat-at t) by-lat.Post
+by-lat-returns-3 t c = ?
+
+by-lat-south-half-requires : (t : ℕ) → by-lat-lts.Need-south-half-requires (lat-calls t) (by-lat-at t) by-lat.Post
+by-lat-south-half-requires t c κs = ?
+
+by-lat-sub-by-lon-2 : (t : ℕ) → by-lat-lts.Need-sub-by-lon-2 (lat-calls t) (by-lat-at t) by-lat.Post
+by-lat-sub-by-lon-2 t c = search needs
+
+by-lat-by-lon-requires-2 : (t : ℕ) → by-lat-lts.Need-by-lon-requires-2 (lat-calls t) (by-lat-at t) by-lat.Post
+by-lat-by-lon-requires-2 t c κs = ?
+
+by-lat-north-half-requires : (t : ℕ) → by-lat-lts.Need-north-half-requires (lat-calls t) (by-lat-at t) by-lat.Post
+by-lat-north-half-requires t c κs = ?
+
+by-lat-sub-by-lon-3 : (t : ℕ) → by-lat-lts.Need-sub-by-lon-3 (lat-calls t) (by-lat-at t) by-lat.Post
+by-lat-sub-by-lon-3 t c = search needs
+
+by-lat-by-lon-requires-3 : (t : ℕ) → by-lat-lts.Need-by-lon-requires-3 (lat-calls t) (by-lat-at t) by-lat.Post
+by-lat-by-lon-requires-3 t c κs = ?
+
+by-lat-lefter-requires : (t : ℕ) → by-lat-lts.Need-lefter-requires (lat-calls t) (by-lat-at t) by-lat.Post
+by-lat-lefter-requires t c κs = search needs
+
+by-lat-same-length-4 : (t : ℕ) → by-lat-lts.Need-same-length-4 (lat-calls t) (by-lat-at t) by-lat.Post
+by-lat-same-length-4 t c = search needs
+
+by-lat-returns-4 : (t : ℕ) → by-lat-lts.Need-returns-4 (lat-calls t) (by-lat-at t) by-lat.Post
+by-lat-returns-4 t c = ?
+
+by-lon-passed-over-requires : (t : ℕ) → by-lon-lts.Need-passed-over-requires (lon-calls t) (by-lon-at t) by-lon.Post
+by-lon-passed-over-requires t c κs = search needs
+
+by-lon-same-length : (t : ℕ) → by-lon-lts.Need-same-length (lon-calls t) (by-lon-at t) by-lon.Post
+by-lon-same-length t c = search needs
+
+by-lon-returns : (t : ℕ) → by-lon-lts.Need-returns (lon-calls t) (by-lon-at t) by-lon.Post
+by-lon-returns t c = ?
+
+by-lon-lon-split-requires : (t : ℕ) → by-lon-lts.Need-lon-split-requires (lon-calls t) (by-lon-at t) by-lon.Post
+by-lon-lon-split-requires t c κs = ?
+
+by-lon-sub-by-lat : (t : ℕ) → by-lon-lts.Need-sub-by-lat (lon-calls t) (by-lon-at t) by-lon.Post
+by-lon-sub-by-lat t c = search needs
+
+by-lon-by-lat-requires : (t : ℕ) → by-lon-lts.Need-by-lat-requires (lon-calls t) (by-lon-at t) by-lon.Post
+by-lon-by-lat-requires t c κs = ?
+
+by-lon-same-length-2 : (t : ℕ) → by-lon-lts.Need-same-length-2 (lon-calls t) (by-lon-at t) by-lon.Post
+by-lon-same-length-2 t c = search needs
+
+by-lon-returns-2 : (t : ℕ) → by-lon-lts.Need-returns-2 (lon-calls t) (by-lon-at t) by-lon.Post
+by-lon-returns-2 t c = ?
+
+by-lon-west-half-requires : (t : ℕ) → by-lon-lts.Need-west-half-requires (lon-calls t) (by-lon-at t) by-lon.Post
+by-lon-west-half-requires t c κs = ?
+
+by-lon-sub-by-lat-2 : (t : ℕ) → by-lon-lts.Need-sub-by-lat-2 (lon-calls t) (by-lon-at t) by-lon.Post
+by-lon-sub-by-lat-2 t c = search needs
+
+by-lon-by-lat-requires-2 : (t : ℕ) → by-lon-lts.Need-by-lat-requires-2 (lon-calls t) (by-lon-at t) by-lon.Post
+by-lon-by-lat-requires-2 t c κs = ?
+
+by-lon-enum-known-first : (t : ℕ) → by-lon-lts.Need-enum-known-first (lon-calls t) (by-lon-at t) by-lon.Post
+by-lon-enum-known-first t c = search needs
+
+by-lon-same-length-3 : (t : ℕ) → by-lon-lts.Need-same-length-3 (lon-calls t) (by-lon-at t) by-lon.Post
+by-lon-same-length-3 t c = search needs
+
+by-lon-returns-3 : (t : ℕ) → by-lon-lts.Need-returns-3 (lon-calls t) (by-lon-at t) by-lon.Post
+by-lon-returns-3 t c = ?
+
+by-lon-enum-told : (t : ℕ) → by-lon-lts.Need-enum-told (lon-calls t) (by-lon-at t) by-lon.Post
+by-lon-enum-told t c = search needs
+
+by-lon-east-half-requires : (t : ℕ) → by-lon-lts.Need-east-half-requires (lon-calls t) (by-lon-at t) by-lon.Post
+by-lon-east-half-requires t c κs = ?
+
+by-lon-sub-by-lat-3 : (t : ℕ) → by-lon-lts.Need-sub-by-lat-3 (lon-calls t) (by-lon-at t) by-lon.Post
+by-lon-sub-by-lat-3 t c = search needs
+
+by-lon-by-lat-requires-3 : (t : ℕ) → by-lon-lts.Need-by-lat-requires-3 (lon-calls t) (by-lon-at t) by-lon.Post
+by-lon-by-lat-requires-3 t c κs = ?
+
+by-lon-same-length-4 : (t : ℕ) → by-lon-lts.Need-same-length-4 (lon-calls t) (by-lon-at t) by-lon.Post
+by-lon-same-length-4 t c = search needs
+
+by-lon-returns-4 : (t : ℕ) → by-lon-lts.Need-returns-4 (lon-calls t) (by-lon-at t) by-lon.Post
+by-lon-returns-4 t c = ?
+
+pub +by-lat+by-lon-spec : {M : Type 1} → statement M
++by-lat+by-lon-spec =
+    close μ-by-lat μ-by-lon
+    (λ t. by-lat-lts.spec (lat-calls t) (by-lat-at t) by-lat.Post
     (by-lat-passed-over-requires t)
     (by-lat-same-length t)
     (by-lat-returns t)
@@ -755,20 +229,7 @@ pub +by-lat+by-lon-spec : {M : Type 1} → statement M
     (by-lat-lefter-requires t)
     (by-lat-same-length-4 t)
     (by-lat-returns-4 t))
-    λ t. by-lon-lts.spec (
-      passed-over-reads.Asked,
-      passed-over-reads.Learnt,
-      lon-split-reads.Asked,
-      lon-split-reads.Learnt,
-      by-lat-below t,
-      by-lat.Post,
-      west-half-reads.Asked,
-      west-half-reads.Learnt,
-      east-half-reads.Asked,
-      east-half-reads.Learnt,
-    )
-    (by-lon-at t)
-    by-lon.Post
+    (λ t. by-lon-lts.spec (lon-calls t) (by-lon-at t) by-lon.Post
     (by-lon-passed-over-requires t)
     (by-lon-same-length t)
     (by-lon-returns t)
@@ -788,4 +249,4 @@ pub +by-lat+by-lon-spec : {M : Type 1} → statement M
     (by-lon-sub-by-lat-3 t)
     (by-lon-by-lat-requires-3 t)
     (by-lon-same-length-4 t)
-    (by-lon-returns-4 t)
+    (by-lon-returns-4 t))

@@ -1,40 +1,48 @@
+-- `quick::halving::lefter` meets its contract: by the two answers, and then by the west sides. Assumes nothing.
+use mathlib.Core.Path.{ap, ap₂, sym, _∙_}
+use mathlib.Core.Bool.{Bool, cond}
 use borrow.Author.Needs.{needs}
+use borrow.Author.Tests.{lt-ltb, le-ltb}
+use Rattle.unit.specs.declared.Choice.the-variants.{At}
+use Rattle.quick.specs.Best.{lefter}
 use Rattle.quick.proofs.halving.lefter.Statement.{statement}
 use Rattle.quick.proofs.halving.lefter.Tie as tie
-use Rattle.quick.proofs.halving.lefter.Reads as reads
-use Rattle.quick.proofs.halving.lefter.Lts as lts
 
--- src/halving.rt:50:20
 enum-known-first : tie.Need-enum-known-first
 enum-known-first c = search needs
 
--- src/halving.rt:51:9
 enum-told : tie.Need-enum-told
 enum-told c = search needs
 
--- src/halving.rt:51:9
 returns : tie.Need-returns
 returns c = search needs
 
--- src/halving.rt:53:20
 enum-known-second : tie.Need-enum-known-second
 enum-known-second c = search needs
 
--- src/halving.rt:54:9
 enum-told-2 : tie.Need-enum-told-2
 enum-told-2 c = search needs
 
--- src/halving.rt:54:9
 returns-2 : tie.Need-returns-2
-returns-2 c = ?
+returns-2 c = sym (ap₂ lefter (c .before .before .before .first .given .1) (c .enum-told2 .given .1))
 
--- src/halving.rt:59:9
 returns-3 : tie.Need-returns-3
-returns-3 c = ?
+returns-3 c =
+    let second = c .before .before .before .before .before .before in
+    let first = second .before .before .before in
+    let a = first .first .given .0 .0 in
+    let b = second .second .given .0 .0 in
+    sym (ap₂ lefter (first .first .given .1) (second .second .given .1)
+    ∙ ap (λ (t : Bool). cond t (At b) (At a)) (lt-ltb (b .west .0) (a .west .0) (c .if1 .taken)))
 
--- src/halving.rt:47:1
 returns-4 : tie.Need-returns-4
-returns-4 c = ?
+returns-4 c =
+    let second = c .before .before .before .before .before .before in
+    let first = second .before .before .before in
+    let a = first .first .given .0 .0 in
+    let b = second .second .given .0 .0 in
+    sym (ap₂ lefter (first .first .given .1) (second .second .given .1)
+    ∙ ap (λ (t : Bool). cond t (At b) (At a)) (le-ltb (b .west .0) (a .west .0) (c .if1 .left)))
 
 pub lefter-spec : {M : Type 1} → statement M
 lefter-spec =
