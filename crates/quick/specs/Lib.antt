@@ -1,3 +1,4 @@
 pub mod Kept
 pub mod Best
 pub mod Asked
+pub mod SearchLaws
