@@ -20,7 +20,7 @@ slice-aggregate-chosen c = search needs
 chosen-requires : tie.Need-chosen-requires
 chosen-requires c κs =
     let start = c .before .before .before in
-    (?, (start .pre .0, (start .pre .1 .0, start .pre .1 .1)))
+    (omega (arith, start .pre .0), (start .pre .0, (start .pre .1 .0, start .pre .1 .1)))
 
 returns-2 : tie.Need-returns-2
 returns-2 c = search needs
