@@ -1,6 +1,6 @@
 -- The laws of the search: levels that are too wide, the room's listed edges, and the answers for the ground of a column, of a level and of
 -- all levels, as the loops carry them on. Assumes nothing.
-use Prim.Native.Nat.{ℕ, zero, suc, _+_, _-_, _*_, _/_, _%_, _≤_, _<_}
+use Prim.Native.Nat.{ℕ, zero, suc, _+_, _-_, _*_, _/_, _≤_, _<_}
 use native.Mathlib.Nat.{eq-or-lt-of-le}
 use native.Mathlib.Omega.{arith}
 use mathlib.Core.Path.{_≡_, refl, sym, ap, ap₂, subst, _∙_}
@@ -19,20 +19,18 @@ use Rattle.ground.specs.Cells.{lowSide, highSide, sidesOf, IsCell}
 use Rattle.ground.specs.CellTest.{low-below-high}
 use Rattle.ground.specs.Sides.{low-most, low-low, high-low, side-end}
 use Rattle.ground.specs.Halves.{Span, low-finer, half-wide}
-use Rattle.boundary.specs.Boundary.{Edge, inside}
+use Rattle.boundary.specs.Boundary.{inside}
 use Rattle.boundary.specs.Corners.{cornersOf}
 use Rattle.boundary.specs.Missing.{Within, Ordered, either}
-use Rattle.boundary.specs.Parity.{Room}
-use Rattle.boundary.specs.Keeping.{Keeps, edgeAt, upFrom, keeps-places}
+use Rattle.boundary.specs.Keeping.{Keeps, edgeAt, keeps-places}
 use Rattle.unit.specs.declared.Choice.{Choice}
 use Rattle.unit.specs.declared.Choice.the-variants.{At, Nowhere}
 use Rattle.unit.specs.Extents.{lats, lons, extremesOf}
 use Rattle.unit.specs.InExtents.{least-each, greatest-each, in-extents}
-use Rattle.unit.specs.Chosen.{Lefter, Before, Chosen, orElse, choose}
+use Rattle.unit.specs.Chosen.{Before, choose}
 use Rattle.unit.specs.Choosing.{InRange, Over, chosen-choose, none-choose}
-use Rattle.quick.specs.declared.half.Half.{Half}
-use Rattle.quick.specs.Asked.{ByLat, Levels, Ground, Column, column, everywhere, tooWide, UnfitBefore}
-use Rattle.quick.specs.Kept.{gather, keptIn, Same, southWest, oddAt, Placed, Sound, Listed}
+use Rattle.quick.specs.Asked.{ByLat, Levels, Ground, column, everywhere, tooWide, UnfitBefore}
+use Rattle.quick.specs.Kept.{gather, Same, southWest, oddAt, Sound, Listed}
 use Rattle.quick.specs.Best.{Wanted, Best, lefter, best-all, best-lat, best-lon}
 
 -- An answer of two tests in turn: the first where it holds
@@ -77,11 +75,21 @@ unfit-none {corners} {r} o d is t wide =
     by : (ltb (2 * distance (r .west .0) (r .east .0)) (sizeOf (d .level)) ≡ true)
         ⊎ (ltb (2 * distance (r .south .0) (r .north .0)) (sizeOf (d .level)) ≡ true) → ⊥
     by (inl e) =
-        omega (arith, ltb-true (2 * distance (r .west .0) (r .east .0)) (sizeOf (d .level)) e,
-        half-wide (d .level) (d .west .0) (is .coarsest) (is .finest) (is .west), w .west, w .east)
+        omega (
+          arith,
+          ltb-true (2 * distance (r .west .0) (r .east .0)) (sizeOf (d .level)) e,
+          half-wide (d .level) (d .west .0) (is .coarsest) (is .finest) (is .west),
+          w .west,
+          w .east,
+        )
     by (inr e) =
-        omega (arith, ltb-true (2 * distance (r .south .0) (r .north .0)) (sizeOf (d .level)) e,
-        half-wide (d .level) (d .south .0) (is .coarsest) (is .finest) (is .south), w .south, w .north)
+        omega (
+          arith,
+          ltb-true (2 * distance (r .south .0) (r .north .0)) (sizeOf (d .level)) e,
+          half-wide (d .level) (d .south .0) (is .coarsest) (is .finest) (is .south),
+          w .south,
+          w .north,
+        )
 
 -- The extremes of corners are in order
 extremes-order : (corners : List Point) → Ordered (extremesOf corners)
@@ -148,23 +156,14 @@ by-lat-all {level} {top} {cell} l g =
       east-end = g .east-end;
     }
 
--- A cell has width
-across : (d : Cell) → IsCell d → d .west .0 < sidesOf d .east .0
+-- A cell has room, across and up
+cell-across : (d : Cell) → IsCell d → sidesOf d .west .0 < sidesOf d .east .0
 unfolding sidesOf
-across d is = low-below-high (d .level) (d .west .0) (is .coarsest) (is .finest)
+cell-across d is = low-below-high (d .level) (d .west .0) (is .coarsest) (is .finest)
 
-up : (d : Cell) → IsCell d → d .south .0 < sidesOf d .north .0
+cell-up : (d : Cell) → IsCell d → sidesOf d .south .0 < sidesOf d .north .0
 unfolding sidesOf
-up d is = low-below-high (d .level) (d .south .0) (is .coarsest) (is .finest)
-
--- A cell's own south and west sides
-own-south : (d : Cell) → sidesOf d .south .0 ≡ d .south .0
-unfolding sidesOf
-own-south d = refl
-
-own-west : (d : Cell) → sidesOf d .west .0 ≡ d .west .0
-unfolding sidesOf
-own-west d = refl
+cell-up d is = low-below-high (d .level) (d .south .0) (is .coarsest) (is .finest)
 
 -- The ground between two longitudes and two latitudes
 abbrev pub between : Lon → Lon → ℕ → ℕ → Rectangle
@@ -189,7 +188,7 @@ level-coarsest : {level top : ℕ} → Levels level top → 9 ≤ level
 level-coarsest l = omega (arith, l .coarsest, l .below)
 
 module _ {corners : List Point} {r : Rectangle} (o : Over corners r) {level top : ℕ} (l : Levels level top) where
-  -- A cell that starts before the ground's end ends within the range
+  -- A cell that starts before the ground's north or east end ends within the range
   pub north-most : {south : ℕ} → lowSide top south ≡ south → south < r .north .0 → highSide top south ≤ latEnd
   north-most is less = side-end top (l .coarsest) (top-finest l) 90 is less (o .north-end)
 
@@ -203,7 +202,7 @@ module _ {corners : List Point} {r : Rectangle} (o : Over corners r) {level top 
         is = subst (λ (n : ℕ). lowSide top n ≡ n) (sym e) (low-low top (l .coarsest) (top-finest l) (r .south .0));
         least = omega arith;
         most = omega (arith, low-most top (l .coarsest) (top-finest l) (r .south .0), over-order o .up, o .north-end);
-        best = λ d w. omega (arith, up d (w .cell), own-south d, w .lies .south, w .lies .north);
+        best = λ d w. omega (arith, cell-up d (w .cell), w .lies .south, w .lies .north);
       }
 
   module _ {west east : Lon} {from south : ℕ} {found : Choice} (s : UpTo corners level top west east from south found) where
@@ -251,11 +250,11 @@ module _ {corners : List Point} {r : Rectangle} (o : Over corners r) {level top 
       record {
         is = subst (λ (n : ℕ). lowSide top n ≡ n) (sym e) (low-low top (l .coarsest) (top-finest l) (r .west .0));
         most = omega (arith, over-order o .across, o .east-end);
-        none = λ d w. omega (arith, across d (w .cell), own-west d, in-over o d (w .cell) (w .is) .west, w .lies .east);
+        none = λ d w. omega (arith, cell-across d (w .cell), in-over o d (w .cell) (w .is) .west, w .lies .east);
       }
 
   module _ {west east : ℕ} (s : EastTo corners level top west) (less : west < r .east .0) (e : east ≡ highSide top west) where
-    -- The next west side
+    -- The next west side is one, within the range
     next-is : lowSide top east ≡ east
     next-is = subst (λ (n : ℕ). lowSide top n ≡ n) (sym e) (high-low top (l .coarsest) (top-finest l) west (s .is))
 
@@ -308,7 +307,7 @@ pub record NoneInside (corners : List Point) (level : ℕ) : Type 0 where
   pub finest : level ≤ 28
   pub none : (d : Cell) → IsCell d → inside corners d ≡ true → d .level < level → ⊥
 
--- What passes a test, the test says
+-- What passes a test, the test says, and the other way round
 said-true : (b : Bool) → T b → b ≡ true
 said-true true t = refl
 said-true false t = absurd t

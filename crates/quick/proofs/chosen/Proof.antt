@@ -1,12 +1,8 @@
--- `quick::chosen` meets its contract. Assumes nothing.
+-- `quick::chosen` meets its contract: the room holds the places of 1024 corners. Assumes nothing.
 use native.Mathlib.Omega.{arith}
 use borrow.Author.Needs.{needs}
 use Rattle.quick.proofs.chosen.Statement.{statement}
 use Rattle.quick.proofs.chosen.Tie as tie
-use Rattle.quick.proofs.chosen.Reads as reads
-use Rattle.quick.proofs.chosen.Lts as lts
-use Rattle.quick.proofs.few.Reads as few-reads
-use Rattle.quick.proofs.search.chosen.Reads as chosen-reads
 
 few-requires : tie.Need-few-requires
 few-requires c κs = search needs

@@ -1,17 +1,10 @@
 -- `quick::code` meets its contract: the frame around the chosen cell. Assumes nothing.
-use mathlib.Core.Path.{_≡_, sym, _∙_}
+use mathlib.Core.Path.{sym, _∙_}
 use Rattle.unit.specs.Framing.{road-refused, road-range, road-few, road-ends}
 use Rattle.unit.specs.Choosing.{over-range}
 use borrow.Author.Needs.{needs}
 use Rattle.quick.proofs.code.Statement.{statement}
 use Rattle.quick.proofs.code.Tie as tie
-use Rattle.quick.proofs.code.Reads as reads
-use Rattle.quick.proofs.code.Lts as lts
-use Rattle.quick.proofs.chosen.Reads as chosen-reads
-use Rattle.unit.proofs.checks.Reads as checks-reads
-use Rattle.unit.proofs.coded_number.Reads as coded-number-reads
-use Rattle.unit.proofs.finish.Reads as finish-reads
-use Rattle.unit.proofs.extremes.Reads as extremes-reads
 
 checks-requires : tie.Need-checks-requires
 checks-requires c κs = search needs
@@ -33,9 +26,10 @@ chosen-requires c κs =
     let checked = c .before .before .before .before in
     let a = checked .before .before .before .args in
     let passed = sym (c .before .before .before .coded-number .ensures) ∙ c .before .before .if1 .left in
-    let range = road-range (a .room .now) (a .numbers .now) (a .kind) (a .number) (checked .checks .result) (checked .checks .ensures) passed in
-    (road-few (a .room .now) (a .numbers .now) (a .kind) (a .number) (checked .checks .result) (checked .checks .ensures) passed,
-    (over-range (c .before .extremes .ensures) range, range))
+    let range = road-range (a .room .now) (a .numbers .now) (a .kind) (a .number) (checked .checks .result) (checked .checks .ensures) passed in (
+      road-few (a .room .now) (a .numbers .now) (a .kind) (a .number) (checked .checks .result) (checked .checks .ensures) passed,
+      (over-range (c .before .extremes .ensures) range, range),
+    )
 
 finish-requires : tie.Need-finish-requires
 finish-requires c κs = search needs

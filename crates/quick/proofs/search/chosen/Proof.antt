@@ -1,7 +1,7 @@
 -- `quick::search::chosen` meets its contract: no cell of a level before `level` is inside. Assumes nothing.
 use Prim.Native.Nat.{_-_}
 use native.Mathlib.Omega.{arith}
-use mathlib.Core.Path.{_≡_, sym, _∙_}
+use mathlib.Core.Path.{_≡_, sym}
 use borrow.Author.Needs.{needs}
 use lib.ListN.{length}
 use Rattle.boundary.specs.Corners.{cornersOf}
@@ -9,11 +9,6 @@ use Rattle.quick.specs.Kept.{Listed}
 use Rattle.quick.specs.SearchLaws.{NoneInside, levels-begin, levels-found, levels-again, levels-end}
 use Rattle.quick.proofs.search.chosen.Statement.{statement}
 use Rattle.quick.proofs.search.chosen.Tie as tie
-use Rattle.quick.proofs.search.chosen.Reads as reads
-use Rattle.quick.proofs.search.chosen.Lts as lts
-use Rattle.quick.proofs.kept.list_all.Reads as list-all-reads
-use Rattle.quick.proofs.search.first_level.Reads as first-level-reads
-use Rattle.quick.proofs.search.in_level.Reads as in-level-reads
 
 abbrev Inv-loop : tie.InvT-loop
 Inv-loop numbers room₀ r level₀ room level =
@@ -65,9 +60,11 @@ loop-less c = search needs
 loop-again : tie.Need-loop-again Inv-loop μ-loop
 loop-again c =
     let level = c .before .before .before .before in
-    let loop = level .before .before .before in
-    (level .in-level .ensures .1, search needs,
-    levels-again (loop .loop .inv .2) (omega (arith, level .before .before .loop-test .taken)) (level .in-level .ensures .0) (c .enum-told .given .1))
+    let loop = level .before .before .before in (
+      level .in-level .ensures .1,
+      search needs,
+      levels-again (loop .loop .inv .2) (omega (arith, level .before .before .loop-test .taken)) (level .in-level .ensures .0) (c .enum-told .given .1),
+    )
 
 same-length-2 : tie.Need-same-length-2 Inv-loop μ-loop
 same-length-2 c = search needs

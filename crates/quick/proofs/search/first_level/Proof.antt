@@ -8,9 +8,6 @@ use Rattle.quick.specs.Asked.{UnfitBefore}
 use Rattle.quick.specs.SearchLaws.{unfit-begin, unfit-again}
 use Rattle.quick.proofs.search.first_level.Statement.{statement}
 use Rattle.quick.proofs.search.first_level.Tie as tie
-use Rattle.quick.proofs.search.first_level.Reads as reads
-use Rattle.quick.proofs.search.first_level.Lts as lts
-use Rattle.quick.proofs.search.unfit.Reads as unfit-reads
 
 abbrev Inv-loop : tie.InvT-loop
 Inv-loop r level₀ level = ((9 ≤ level) × (level ≤ 28)) × UnfitBefore r level
@@ -35,9 +32,10 @@ loop-less c = search needs
 
 loop-again : tie.Need-loop-again Inv-loop μ-loop
 loop-again c =
-    let at = c .before .before .before in
-    ((omega (arith, at .loop .inv .0 .0), omega (arith, c .before .before .loop-test .taken)),
-    unfit-again (at .before .args .r) (at .loop .inv .1) (sym (c .before .unfit .ensures) ∙ not-false (c .before .unfit .result) (c .if1 .left)))
+    let at = c .before .before .before in (
+      (omega (arith, at .loop .inv .0 .0), omega (arith, c .before .before .loop-test .taken)),
+      unfit-again (at .before .args .r) (at .loop .inv .1) (sym (c .before .unfit .ensures) ∙ not-false (c .before .unfit .result) (c .if1 .left)),
+    )
 
 returns-2 : tie.Need-returns-2 Inv-loop μ-loop
 returns-2 c = c .before .loop .inv

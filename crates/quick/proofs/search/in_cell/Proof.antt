@@ -6,11 +6,6 @@ use Rattle.quick.specs.SearchLaws.{listed-same, sound-all, by-lat-all}
 use borrow.Author.Needs.{needs}
 use Rattle.quick.proofs.search.in_cell.Statement.{statement}
 use Rattle.quick.proofs.search.in_cell.Tie as tie
-use Rattle.quick.proofs.search.in_cell.Reads as reads
-use Rattle.quick.proofs.search.in_cell.Lts as lts
-use Rattle.boundary.proofs.odd_count.Reads as odd-count-reads
-use Rattle.quick.proofs.half.corner_of.Reads as corner-of-reads
-use Rattle.quick.proofs.halving.by_lat.Reads as by-lat-reads
 
 corner-of-requires : tie.Need-corner-of-requires
 corner-of-requires c κs = search needs
@@ -28,10 +23,11 @@ by-lat-requires : tie.Need-by-lat-requires
 by-lat-requires c κs =
     let start = c .before .before .before .before .before in
     let levels = start .pre .1 .0 in
-    let ground = start .pre .1 .1 in
-    (sound-all (start .pre .0) (levels .coarsest) (omega (arith, levels .below, levels .finest)) ground
-    (c .before .odd-count .ensures ∙ ap (oddAt (start .args .numbers .now)) (c .before .before .corner-of .ensures)),
-    by-lat-all levels ground)
+    let ground = start .pre .1 .1 in (
+      sound-all (start .pre .0) (levels .coarsest) (omega (arith, levels .below, levels .finest)) ground
+          (c .before .odd-count .ensures ∙ ap (oddAt (start .args .numbers .now)) (c .before .before .corner-of .ensures)),
+      by-lat-all levels ground,
+    )
 
 same-length : tie.Need-same-length
 same-length c = search needs
@@ -39,9 +35,10 @@ same-length c = search needs
 returns : tie.Need-returns
 returns c =
     let start = c .before .before .before .before .before .before .before .before in
-    let by-lat = c .before .before in
-    (by-lat .by-lat .ensures .0,
-    listed-same (start .pre .0) (search needs) (by-lat .by-lat .ensures .1))
+    let by-lat = c .before .before in (
+      by-lat .by-lat .ensures .0,
+      listed-same (start .pre .0) (search needs) (by-lat .by-lat .ensures .1),
+    )
 
 pub in-cell-spec : {M : Type 1} → statement M
 in-cell-spec =

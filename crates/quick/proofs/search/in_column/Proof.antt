@@ -1,7 +1,7 @@
 -- `quick::search::in_column` meets its contract: the ground from the first south side up to `south` has been searched. Assumes nothing.
 use Prim.Native.Nat.{_-_, _≤_}
 use native.Mathlib.Omega.{arith}
-use mathlib.Core.Path.{_≡_, sym, _∙_}
+use mathlib.Core.Path.{_≡_}
 use borrow.Author.Needs.{needs}
 use lib.ListN.{length}
 use Rattle.ground.specs.Levels.{latEnd}
@@ -11,12 +11,6 @@ use Rattle.quick.specs.Kept.{Listed}
 use Rattle.quick.specs.SearchLaws.{UpTo, north-most, column-begin, column-again, column-end}
 use Rattle.quick.proofs.search.in_column.Statement.{statement}
 use Rattle.quick.proofs.search.in_column.Tie as tie
-use Rattle.quick.proofs.search.in_column.Reads as reads
-use Rattle.quick.proofs.search.in_column.Lts as lts
-use Rattle.ground.proofs.high_side.Reads as high-side-reads
-use Rattle.ground.proofs.low_side.Reads as low-side-reads
-use Rattle.quick.proofs.halving.lefter.Reads as lefter-reads
-use Rattle.quick.proofs.search.in_cell.Reads as in-cell-reads
 
 abbrev Inv-loop : tie.InvT-loop
 Inv-loop numbers room₀ level top west east to found₀ south₀ room found south =
@@ -50,13 +44,18 @@ in-cell-requires : tie.Need-in-cell-requires Inv-loop μ-loop
 in-cell-requires c κs =
     let loop = c .before .before .before .before in
     let start = loop .before .before .before .before .before .before in
-    let column = start .pre .1 .1 .1 in
-    (loop .loop .inv .0, (start .pre .1 .1 .0, record {
-      lat = record { low = loop .loop .inv .2 .is; high = c .before .high-side .ensures };
-      lon = column .lon;
-      north-end = next (c .before);
-      east-end = column .east-end;
-    }))
+    let column = start .pre .1 .1 .1 in (
+      loop .loop .inv .0,
+      (
+        start .pre .1 .1 .0,
+        record {
+          lat = record { low = loop .loop .inv .2 .is; high = c .before .high-side .ensures };
+          lon = column .lon;
+          north-end = next (c .before);
+          east-end = column .east-end;
+        },
+      ),
+    )
 
 lefter-requires : tie.Need-lefter-requires Inv-loop μ-loop
 lefter-requires c κs = search needs
@@ -74,9 +73,12 @@ loop-again c =
     let cell = c .before .before .before in
     let high = cell .before .before in
     let loop = high .before .before .before in
-    let start = loop .before .before .before .before .before .before in
-    (cell .in-cell .ensures .1, search needs, column-again (start .pre .1 .0) (start .pre .1 .1 .0) (loop .loop .inv .2) (cell .in-cell .result)
-    (high .before .if1 .taken) (high .high-side .ensures) (cell .in-cell .ensures .0) (c .lefter .ensures))
+    let start = loop .before .before .before .before .before .before in (
+      cell .in-cell .ensures .1,
+      search needs,
+      column-again (start .pre .1 .0) (start .pre .1 .1 .0) (loop .loop .inv .2) (cell .in-cell .result)
+          (high .before .if1 .taken) (high .high-side .ensures) (cell .in-cell .ensures .0) (c .lefter .ensures),
+    )
 
 same-length : tie.Need-same-length Inv-loop μ-loop
 same-length c = c .before .before .loop .inv .1

@@ -1,7 +1,7 @@
 -- `quick::search::in_level` meets its contract: nothing was found west of `west`. Assumes nothing.
 use Prim.Native.Nat.{_-_, _≤_}
 use native.Mathlib.Omega.{arith}
-use mathlib.Core.Path.{_≡_, sym, _∙_}
+use mathlib.Core.Path.{_≡_}
 use borrow.Author.Needs.{needs}
 use lib.ListN.{length}
 use Rattle.ground.specs.Levels.{lonEnd}
@@ -12,12 +12,6 @@ use Rattle.quick.specs.Asked.{Levels}
 use Rattle.quick.specs.SearchLaws.{EastTo, east-most, level-begin, level-found, level-again, level-end}
 use Rattle.quick.proofs.search.in_level.Statement.{statement}
 use Rattle.quick.proofs.search.in_level.Tie as tie
-use Rattle.quick.proofs.search.in_level.Reads as reads
-use Rattle.quick.proofs.search.in_level.Lts as lts
-use Rattle.ground.proofs.high_side.Reads as high-side-reads
-use Rattle.ground.proofs.low_side.Reads as low-side-reads
-use Rattle.quick.proofs.search.in_column.Reads as in-column-reads
-use Rattle.quick.proofs.search.top_of.Reads as top-of-reads
 
 abbrev Inv-loop : tie.InvT-loop
 Inv-loop numbers room₀ r level top to west₀ room west =
@@ -60,11 +54,19 @@ in-column-requires : tie.Need-in-column-requires Inv-loop μ-loop
 in-column-requires c κs =
     let loop = c .before .before .before .before in
     let top = loop .before .before .before .before in
-    let start = top .before .before .before in
-    (loop .loop .inv .0, (start .pre .1 .0, (levels top, record {
-      lon = record { low = loop .loop .inv .2 .is; high = c .before .high-side .ensures };
-      east-end = next (c .before);
-    })))
+    let start = top .before .before .before in (
+      loop .loop .inv .0,
+      (
+        start .pre .1 .0,
+        (
+          levels top,
+          record {
+            lon = record { low = loop .loop .inv .2 .is; high = c .before .high-side .ensures };
+            east-end = next (c .before);
+          },
+        ),
+      ),
+    )
 
 enum-known-found : tie.Need-enum-known-found Inv-loop μ-loop
 enum-known-found c = search needs
@@ -77,9 +79,11 @@ returns c =
     let column = c .before .before .before .before .before in
     let high = column .before .before in
     let loop = high .before .before .before in
-    let top = loop .before .before .before .before in
-    (level-found (top .before .before .before .pre .1 .0) (levels top) (loop .loop .inv .2) (high .before .if1 .taken) (high .high-side .ensures)
-    (column .in-column .ensures .0) (c .before .found .given .1), column .in-column .ensures .1)
+    let top = loop .before .before .before .before in (
+      level-found (top .before .before .before .pre .1 .0) (levels top) (loop .loop .inv .2) (high .before .if1 .taken) (high .high-side .ensures)
+          (column .in-column .ensures .0) (c .before .found .given .1),
+      column .in-column .ensures .1,
+    )
 
 enum-told : tie.Need-enum-told Inv-loop μ-loop
 enum-told c = search needs
@@ -97,10 +101,12 @@ loop-again c =
     let column = c .before .before .before .before in
     let high = column .before .before in
     let loop = high .before .before .before in
-    let top = loop .before .before .before .before in
-    (column .in-column .ensures .1, search needs,
-    level-again (top .before .before .before .pre .1 .0) (levels top) (loop .loop .inv .2) (high .before .if1 .taken) (high .high-side .ensures)
-    (column .in-column .ensures .0) (c .enum-told .given .1))
+    let top = loop .before .before .before .before in (
+      column .in-column .ensures .1,
+      search needs,
+      level-again (top .before .before .before .pre .1 .0) (levels top) (loop .loop .inv .2) (high .before .if1 .taken) (high .high-side .ensures)
+          (column .in-column .ensures .0) (c .enum-told .given .1),
+    )
 
 same-length-2 : tie.Need-same-length-2 Inv-loop μ-loop
 same-length-2 c = c .before .before .loop .inv .1

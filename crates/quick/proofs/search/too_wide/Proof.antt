@@ -5,10 +5,6 @@ use lib.Dec.{ltb}
 use borrow.Author.Needs.{needs}
 use Rattle.quick.proofs.search.too_wide.Statement.{statement}
 use Rattle.quick.proofs.search.too_wide.Tie as tie
-use Rattle.quick.proofs.search.too_wide.Reads as reads
-use Rattle.quick.proofs.search.too_wide.Lts as lts
-use Rattle.ground.proofs.apart.Reads as apart-reads
-use Rattle.ground.proofs.size.Reads as size-reads
 
 apart-requires : tie.Need-apart-requires
 apart-requires c κs = search needs

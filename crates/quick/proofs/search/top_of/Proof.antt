@@ -4,9 +4,6 @@ use native.Mathlib.Omega.{arith}
 use borrow.Author.Needs.{needs}
 use Rattle.quick.proofs.search.top_of.Statement.{statement}
 use Rattle.quick.proofs.search.top_of.Tie as tie
-use Rattle.quick.proofs.search.top_of.Reads as reads
-use Rattle.quick.proofs.search.top_of.Lts as lts
-use Rattle.quick.proofs.search.small.Reads as small-reads
 
 abbrev Inv-loop : tie.InvT-loop
 Inv-loop r level top₀ top = (9 ≤ top) × (top ≤ level)

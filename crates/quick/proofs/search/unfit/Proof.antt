@@ -6,9 +6,6 @@ use Rattle.quick.specs.SearchLaws.{or-first, or-second}
 use borrow.Author.Needs.{needs}
 use Rattle.quick.proofs.search.unfit.Statement.{statement}
 use Rattle.quick.proofs.search.unfit.Tie as tie
-use Rattle.quick.proofs.search.unfit.Reads as reads
-use Rattle.quick.proofs.search.unfit.Lts as lts
-use Rattle.quick.proofs.search.too_wide.Reads as too-wide-reads
 
 too-wide-requires : tie.Need-too-wide-requires
 too-wide-requires c κs = search needs
