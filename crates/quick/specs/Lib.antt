@@ -3,3 +3,4 @@ pub mod KeptLaws
 pub mod Best
 pub mod Asked
 pub mod HalfLaws
+pub mod SearchLaws

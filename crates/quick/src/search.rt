@@ -98,7 +98,15 @@ fn in_cell(numbers: &[u32], room: &mut [u16], cell: Rectangle, level: u32, top: 
 }
 
 // The first of a level between two sides of a coarser level: that level's south sides in turn.
-fn in_column(numbers: &[u32], room: &mut [u16], r: Rectangle, level: u32, top: u32, west: Lon, east: Lon) -> Choice
+fn in_column(
+    numbers: &[u32],
+    room: &mut [u16],
+    r: Rectangle,
+    level: u32,
+    top: u32,
+    west: Lon,
+    east: Lon,
+) -> Choice
     requires { ⌜ Listed (now numbers) (now room) ⌝ }
     requires { ⌜ Over (cornersOf (now numbers)) r ⌝ }
     requires { ⌜ Levels level top ⌝ }

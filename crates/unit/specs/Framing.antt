@@ -1,6 +1,6 @@
 -- The frame makes coding whole: where one of checks 1 to 6 refuses, coding says what it says and leaves the room; else coding is its end
 -- around the chosen cell. Assumes nothing.
-use Prim.Native.Nat.{ℕ, zero, suc, _≤_}
+use Prim.Native.Nat.{ℕ, zero, suc, _/_, _≤_}
 use mathlib.Core.Path.{_≡_, refl, ap, ap₂, sym, _∙_}
 use mathlib.Core.Bool.{Bool, true, false, cond, true≢false}
 use mathlib.Core.List.{List, [], _∷_}
@@ -13,7 +13,7 @@ use Rattle.ground.specs.declared.Rectangle.{Rectangle}
 use Rattle.ground.specs.CellTest.{is-cell}
 use Rattle.code.specs.declared.Fields.{Fields}
 use Rattle.code.specs.Code.{writing, codeOf}
-use Rattle.code.specs.Writing.{Good, good-writing, zero-writing, refused-writing}
+use Rattle.code.specs.Writing.{Good, within, good-writing, zero-writing, refused-writing}
 use Rattle.boundary.specs.Corners.{cornersOf}
 use Rattle.unit.specs.declared.Kind.{Kind}
 use Rattle.unit.specs.declared.Coded.{Coded}
@@ -78,6 +78,12 @@ module _ (room numbers : List ℕ) (kind : Kind) (number : ℕ) where
   unfolding firstChecks cornerChecks
   checked-range e = entered room numbers kind number (passed (take 6 (codeChecks (length room) numbers kind number)) tt e) .range
 
+  -- and at most 1024
+  pub checked-few : run (firstChecks (length room) numbers kind number) .number ≡ 0 → length numbers / 2 ≤ 1024
+  unfolding firstChecks cornerChecks
+  checked-few e =
+      within 3 1024 (length numbers / 2) (passed (take 6 (codeChecks (length room) numbers kind number)) tt e .1 .1 .0) .1
+
   -- and coding is its end around the chosen cell
   pub framed : run (firstChecks (length room) numbers kind number) .number ≡ 0
       → coding room numbers kind number ≡ finishing room (extremesOf (cornersOf numbers)) number (choose (cornersOf numbers))
@@ -111,6 +117,10 @@ module _ (room numbers : List ℕ) (kind : Kind) (number : ℕ) where
     -- one that they accept may search within the range
     pub road-range : says a .number ≡ 0 → InRange (cornersOf numbers)
     road-range h = checked-range (sym (ap (λ (s : Said). s .number) say) ∙ h)
+
+    -- with at most 1024 corners
+    pub road-few : says a .number ≡ 0 → length numbers / 2 ≤ 1024
+    road-few h = checked-few (sym (ap (λ (s : Said). s .number) say) ∙ h)
 
     -- and codes by ending around the chosen cell
     pub road-ends : says a .number ≡ 0 → {o : Outcome} {r : Rectangle} {choice : Choice} → r ≡ extremesOf (cornersOf numbers)

@@ -1,28 +1,23 @@
+-- `quick::chosen` meets its contract: the room holds the places of 1024 corners. Assumes nothing.
+use native.Mathlib.Omega.{arith}
 use borrow.Author.Needs.{needs}
 use Rattle.quick.proofs.chosen.Statement.{statement}
 use Rattle.quick.proofs.chosen.Tie as tie
-use Rattle.quick.proofs.chosen.Reads as reads
-use Rattle.quick.proofs.chosen.Lts as lts
-use Rattle.quick.proofs.few.Reads as few-reads
-use Rattle.quick.proofs.search.chosen.Reads as chosen-reads
 
--- src/lib.rt:42:9
 few-requires : tie.Need-few-requires
 few-requires c κs = search needs
 
--- src/lib.rt:42:9
 returns : tie.Need-returns
 returns c = search needs
 
--- src/lib.rt:45:29
 slice-aggregate-chosen : tie.Need-slice-aggregate-chosen
 slice-aggregate-chosen c = search needs
 
--- src/lib.rt:45:5
 chosen-requires : tie.Need-chosen-requires
-chosen-requires c κs = ?
+chosen-requires c κs =
+    let start = c .before .before .before in
+    (omega (arith, start .pre .0), (start .pre .0, (start .pre .1 .0, start .pre .1 .1)))
 
--- src/lib.rt:35:1
 returns-2 : tie.Need-returns-2
 returns-2 c = search needs
 

@@ -1,45 +1,51 @@
+-- `quick::code` meets its contract: the frame around the chosen cell. Assumes nothing.
+use mathlib.Core.Path.{sym, _∙_}
+use Rattle.unit.specs.Framing.{road-refused, road-range, road-few, road-ends}
+use Rattle.unit.specs.Choosing.{over-range}
 use borrow.Author.Needs.{needs}
 use Rattle.quick.proofs.code.Statement.{statement}
 use Rattle.quick.proofs.code.Tie as tie
-use Rattle.quick.proofs.code.Reads as reads
-use Rattle.quick.proofs.code.Lts as lts
-use Rattle.quick.proofs.chosen.Reads as chosen-reads
-use Rattle.unit.proofs.checks.Reads as checks-reads
-use Rattle.unit.proofs.coded_number.Reads as coded-number-reads
-use Rattle.unit.proofs.finish.Reads as finish-reads
-use Rattle.unit.proofs.extremes.Reads as extremes-reads
 
--- src/lib.rt:25:9
 checks-requires : tie.Need-checks-requires
 checks-requires c κs = search needs
 
--- src/lib.rt:26:8
 coded-number-requires : tie.Need-coded-number-requires
 coded-number-requires c κs = search needs
 
--- src/lib.rt:27:9
 returns : tie.Need-returns
-returns c = ?
+returns c =
+    let a = c .before .before .before .before .before .args in
+    road-refused (a .room .now) (a .numbers .now) (a .kind) (a .number) (c .before .before .checks .result) (c .before .before .checks .ensures)
+    (λ e. c .if1 .taken (c .before .coded-number .ensures ∙ e))
 
--- src/lib.rt:29:9
 extremes-requires : tie.Need-extremes-requires
 extremes-requires c κs = search needs
 
--- src/lib.rt:30:35
 chosen-requires : tie.Need-chosen-requires
-chosen-requires c κs = ?
+chosen-requires c κs =
+    let checked = c .before .before .before .before in
+    let a = checked .before .before .before .args in
+    let passed = sym (c .before .before .before .coded-number .ensures) ∙ c .before .before .if1 .left in
+    let range = road-range (a .room .now) (a .numbers .now) (a .kind) (a .number) (checked .checks .result) (checked .checks .ensures) passed in (
+      road-few (a .room .now) (a .numbers .now) (a .kind) (a .number) (checked .checks .result) (checked .checks .ensures) passed,
+      (over-range (c .before .extremes .ensures) range, range),
+    )
 
--- src/lib.rt:30:5
 finish-requires : tie.Need-finish-requires
 finish-requires c κs = search needs
 
--- src/lib.rt:22:1
 same-length : tie.Need-same-length
 same-length c = search needs
 
--- src/lib.rt:22:1
 returns-2 : tie.Need-returns-2
-returns-2 c = ?
+returns-2 c =
+    let found = c .before .before .before in
+    let extremes = found .before .before in
+    let checked = extremes .before .before .before in
+    let a = checked .before .before .before .args in
+    road-ends (a .room .now) (a .numbers .now) (a .kind) (a .number) (checked .checks .result) (checked .checks .ensures)
+    (sym (extremes .before .before .coded-number .ensures) ∙ extremes .before .if1 .left)
+    (extremes .extremes .ensures) (found .chosen .ensures) (c .before .before .finish .ensures)
 
 pub code-spec : {M : Type 1} → statement M
 code-spec =

@@ -1,67 +1,79 @@
+-- `quick::search::chosen` meets its contract: no cell of a level before `level` is inside. Assumes nothing.
+use Prim.Native.Nat.{_-_}
+use native.Mathlib.Omega.{arith}
+use mathlib.Core.Path.{_≡_, sym}
+use borrow.Author.Needs.{needs}
+use lib.ListN.{length}
+use Rattle.boundary.specs.Corners.{cornersOf}
+use Rattle.quick.specs.Kept.{Listed}
+use Rattle.quick.specs.SearchLaws.{NoneInside, levels-begin, levels-found, levels-again, levels-end}
 use Rattle.quick.proofs.search.chosen.Statement.{statement}
 use Rattle.quick.proofs.search.chosen.Tie as tie
-use Rattle.quick.proofs.search.chosen.Reads as reads
-use Rattle.quick.proofs.search.chosen.Lts as lts
-use Rattle.quick.proofs.kept.list_all.Reads as list-all-reads
-use Rattle.quick.proofs.search.first_level.Reads as first-level-reads
-use Rattle.quick.proofs.search.in_level.Reads as in-level-reads
 
 abbrev Inv-loop : tie.InvT-loop
-Inv-loop numbers room₀ r level₀ room level = ?
+Inv-loop numbers room₀ r level₀ room level =
+    Listed numbers room × (length room ≡ length room₀) × NoneInside (cornersOf numbers) level
 
 abbrev μ-loop : tie.MeasureT-loop
-μ-loop numbers room₀ r level₀ room level = ?
+μ-loop numbers room₀ r level₀ room level = 28 - level
 
--- src/search.rt:158:5
 list-all-requires : tie.Need-list-all-requires Inv-loop μ-loop
-list-all-requires c κs = ?
+list-all-requires c κs = let start = c .before .before .before in (start .pre .0, start .pre .1 .0)
 
--- src/search.rt:159:9
 first-level-requires : tie.Need-first-level-requires Inv-loop μ-loop
-first-level-requires c κs = ?
+first-level-requires c κs = search needs
 
--- src/search.rt:160:5
 loop-holds : tie.Need-loop-holds Inv-loop μ-loop
-loop-holds c = ?
+loop-holds c =
+    let listed = c .before .before .before in
+    let start = listed .before .before .before .before in
+    (listed .list-all .ensures, search needs, levels-begin (start .pre .1 .1 .0) (c .first-level .ensures .0) (c .first-level .ensures .1))
 
--- src/search.rt:161:13
 in-level-requires : tie.Need-in-level-requires Inv-loop μ-loop
-in-level-requires c κs = ?
+in-level-requires c κs =
+    let loop = c .before .before in
+    let start = loop .before .before .before .before .before .before .before .before in
+    (loop .loop .inv .0, (start .pre .1 .1 .0, (loop .loop .inv .2 .coarsest, omega (arith, c .before .loop-test .taken))))
 
--- src/search.rt:162:27
 enum-known-found : tie.Need-enum-known-found Inv-loop μ-loop
-enum-known-found c = ?
+enum-known-found c = search needs
 
--- src/search.rt:163:13
 same-length : tie.Need-same-length Inv-loop μ-loop
-same-length c = ?
+same-length c = search needs
 
--- src/search.rt:163:13
 returns : tie.Need-returns Inv-loop μ-loop
-returns c = ?
+returns c =
+    let level = c .before .before .before .before .before in
+    let loop = level .before .before .before in
+    let start = loop .before .before .before .before .before .before .before .before in
+    sym (levels-found (loop .loop .inv .2) (start .pre .1 .1 .1) (level .in-level .ensures .0) (c .before .found .given .1))
 
 enum-told : tie.Need-enum-told Inv-loop μ-loop
-enum-told c = ?
+enum-told c = search needs
 
--- src/search.rt:165:9
 add-level : tie.Need-add-level Inv-loop μ-loop
-add-level c = ?
+add-level c = search needs
 
--- src/search.rt:160:5
 loop-less : tie.Need-loop-less Inv-loop μ-loop
-loop-less c = ?
+loop-less c = search needs
 
--- src/search.rt:160:5
 loop-again : tie.Need-loop-again Inv-loop μ-loop
-loop-again c = ?
+loop-again c =
+    let level = c .before .before .before .before in
+    let loop = level .before .before .before in (
+      level .in-level .ensures .1,
+      search needs,
+      levels-again (loop .loop .inv .2) (omega (arith, level .before .before .loop-test .taken)) (level .in-level .ensures .0) (c .enum-told .given .1),
+    )
 
--- src/search.rt:151:1
 same-length-2 : tie.Need-same-length-2 Inv-loop μ-loop
-same-length-2 c = ?
+same-length-2 c = search needs
 
--- src/search.rt:151:1
 returns-2 : tie.Need-returns-2 Inv-loop μ-loop
-returns-2 c = ?
+returns-2 c =
+    let loop = c .before in
+    let start = loop .before .before .before .before .before .before .before .before in
+    sym (levels-end (loop .loop .inv .2) (start .pre .1 .1 .1) (omega (arith, c .loop-test .left)))
 
 pub chosen-spec : {M : Type 1} → statement M
 chosen-spec =

@@ -1,72 +1,121 @@
+-- `quick::search::in_level` meets its contract: nothing was found west of `west`. Assumes nothing.
+use Prim.Native.Nat.{_-_, _≤_}
+use native.Mathlib.Omega.{arith}
+use mathlib.Core.Path.{_≡_}
+use borrow.Author.Needs.{needs}
+use lib.ListN.{length}
+use Rattle.ground.specs.Levels.{lonEnd}
+use Rattle.ground.specs.CellTest.{low-below-high}
+use Rattle.boundary.specs.Corners.{cornersOf}
+use Rattle.quick.specs.Kept.{Listed}
+use Rattle.quick.specs.Asked.{Levels}
+use Rattle.quick.specs.SearchLaws.{EastTo, east-most, level-begin, level-found, level-again, level-end}
 use Rattle.quick.proofs.search.in_level.Statement.{statement}
 use Rattle.quick.proofs.search.in_level.Tie as tie
-use Rattle.quick.proofs.search.in_level.Reads as reads
-use Rattle.quick.proofs.search.in_level.Lts as lts
-use Rattle.ground.proofs.high_side.Reads as high-side-reads
-use Rattle.ground.proofs.low_side.Reads as low-side-reads
-use Rattle.quick.proofs.search.in_column.Reads as in-column-reads
-use Rattle.quick.proofs.search.top_of.Reads as top-of-reads
 
 abbrev Inv-loop : tie.InvT-loop
-Inv-loop numbers room₀ r level top to west₀ room west = ?
+Inv-loop numbers room₀ r level top to west₀ room west =
+    Listed numbers room × (length room ≡ length room₀) × EastTo (cornersOf numbers) level top west
 
 abbrev μ-loop : tie.MeasureT-loop
-μ-loop numbers room₀ r level top to west₀ room west = ?
+μ-loop numbers room₀ r level top to west₀ room west = to .0 - west
 
--- src/search.rt:135:9
+-- the level to start halving from
+levels : (c : tie.After-top-of Inv-loop μ-loop) → Levels (c .before .before .before .args .level) (c .top-of .result)
+levels c =
+    record { coarsest = c .top-of .ensures .0; below = c .top-of .ensures .1; finest = c .before .before .before .pre .1 .1 .1 }
+
+-- the next west side is within the range
+next : (c : tie.After-high-side Inv-loop μ-loop) → c .high-side .result ≤ lonEnd
+next c =
+    let loop = c .before .before .before in
+    let top = loop .before .before .before .before in
+    omega (arith, c .high-side .ensures, east-most (top .before .before .before .pre .1 .0) (levels top) (loop .loop .inv .2 .is) (c .before .if1 .taken))
+
 top-of-requires : tie.Need-top-of-requires Inv-loop μ-loop
-top-of-requires c κs = ?
+top-of-requires c κs = c .before .before .pre .1 .1 .0
 
--- src/search.rt:138:9
 low-side-requires : tie.Need-low-side-requires Inv-loop μ-loop
-low-side-requires c κs = ?
+low-side-requires c κs = search needs
 
--- src/search.rt:139:5
 loop-holds : tie.Need-loop-holds Inv-loop μ-loop
-loop-holds c = ?
+loop-holds c =
+    let top = c .before .before .before in
+    let start = top .before .before .before in
+    (start .pre .0, search needs, level-begin (start .pre .1 .0) (levels top) (c .low-side .ensures))
 
--- src/search.rt:140:20
 high-side-requires : tie.Need-high-side-requires Inv-loop μ-loop
-high-side-requires c κs = ?
+high-side-requires c κs = search needs
 
--- src/search.rt:140:20
 cast-east : tie.Need-cast-east Inv-loop μ-loop
-cast-east c = ?
+cast-east c = omega (arith, next c)
 
--- src/search.rt:141:13
 in-column-requires : tie.Need-in-column-requires Inv-loop μ-loop
-in-column-requires c κs = ?
+in-column-requires c κs =
+    let loop = c .before .before .before .before in
+    let top = loop .before .before .before .before in
+    let start = top .before .before .before in (
+      loop .loop .inv .0,
+      (
+        start .pre .1 .0,
+        (
+          levels top,
+          record {
+            lon = record { low = loop .loop .inv .2 .is; high = c .before .high-side .ensures };
+            east-end = next (c .before);
+          },
+        ),
+      ),
+    )
 
--- src/search.rt:142:27
 enum-known-found : tie.Need-enum-known-found Inv-loop μ-loop
-enum-known-found c = ?
+enum-known-found c = search needs
 
--- src/search.rt:143:13
 same-length : tie.Need-same-length Inv-loop μ-loop
-same-length c = ?
+same-length c = search needs
 
--- src/search.rt:143:13
 returns : tie.Need-returns Inv-loop μ-loop
-returns c = ?
+returns c =
+    let column = c .before .before .before .before .before in
+    let high = column .before .before in
+    let loop = high .before .before .before in
+    let top = loop .before .before .before .before in (
+      level-found (top .before .before .before .pre .1 .0) (levels top) (loop .loop .inv .2) (high .before .if1 .taken) (high .high-side .ensures)
+          (column .in-column .ensures .0) (c .before .found .given .1),
+      column .in-column .ensures .1,
+    )
 
 enum-told : tie.Need-enum-told Inv-loop μ-loop
-enum-told c = ?
+enum-told c = search needs
 
--- src/search.rt:139:5
 loop-less : tie.Need-loop-less Inv-loop μ-loop
-loop-less c = ?
+loop-less c =
+    let high = c .before .before .before .before .before .before in
+    let loop = high .before .before .before in
+    let top = loop .before .before .before .before in
+    let l = levels top in
+    omega (arith, high .high-side .ensures, low-below-high (top .top-of .result) (loop .loop .west) (l .coarsest) (omega (arith, l .below, l .finest)), high .before .if1 .taken)
 
--- src/search.rt:139:5
 loop-again : tie.Need-loop-again Inv-loop μ-loop
-loop-again c = ?
+loop-again c =
+    let column = c .before .before .before .before in
+    let high = column .before .before in
+    let loop = high .before .before .before in
+    let top = loop .before .before .before .before in (
+      column .in-column .ensures .1,
+      search needs,
+      level-again (top .before .before .before .pre .1 .0) (levels top) (loop .loop .inv .2) (high .before .if1 .taken) (high .high-side .ensures)
+          (column .in-column .ensures .0) (c .enum-told .given .1),
+    )
 
--- src/search.rt:128:1
 same-length-2 : tie.Need-same-length-2 Inv-loop μ-loop
-same-length-2 c = ?
+same-length-2 c = c .before .before .loop .inv .1
 
--- src/search.rt:128:1
 returns-2 : tie.Need-returns-2 Inv-loop μ-loop
-returns-2 c = ?
+returns-2 c =
+    let loop = c .before .before in
+    let top = loop .before .before .before .before in
+    (level-end (top .before .before .before .pre .1 .0) (levels top) (loop .loop .inv .2) (c .if1 .left), loop .loop .inv .0)
 
 pub in-level-spec : {M : Type 1} → statement M
 in-level-spec =

@@ -1,0 +1,370 @@
+-- The laws of the search: levels that are too wide, the room's listed edges, and the answers for the ground of a column, of a level and of
+-- all levels, as the loops carry them on. Assumes nothing.
+use Prim.Native.Nat.{ℕ, zero, suc, _+_, _-_, _*_, _/_, _≤_, _<_}
+use native.Mathlib.Nat.{eq-or-lt-of-le}
+use native.Mathlib.Omega.{arith}
+use mathlib.Core.Path.{_≡_, refl, sym, ap, ap₂, subst, _∙_}
+use mathlib.Core.Logic.{_⊎_, inl, inr}
+use mathlib.Core.Bool.{Bool, true, false, _||_}
+use mathlib.Core.List.{List, [], _∷_, map}
+use lib.Dec.{T, ltb}
+use lib.ListN.{length, getD}
+use borrow.Author.Tests.{ltb-true}
+use Rattle.ground.specs.declared.Lon.{Lon}
+use Rattle.ground.specs.declared.Point.{Point}
+use Rattle.ground.specs.declared.Rectangle.{Rectangle}
+use Rattle.ground.specs.declared.Cell.{Cell}
+use Rattle.ground.specs.Levels.{lat, lon, latEnd, lonEnd, distance, sizeOf}
+use Rattle.ground.specs.Cells.{lowSide, highSide, sidesOf, IsCell}
+use Rattle.ground.specs.CellTest.{low-below-high}
+use Rattle.ground.specs.Sides.{low-most, low-low, high-low, side-end}
+use Rattle.ground.specs.Halves.{Span, low-finer, half-wide}
+use Rattle.boundary.specs.Boundary.{inside}
+use Rattle.boundary.specs.Corners.{cornersOf}
+use Rattle.boundary.specs.Missing.{Within, Ordered, either}
+use Rattle.boundary.specs.Keeping.{Keeps, edgeAt, keeps-places}
+use Rattle.unit.specs.declared.Choice.{Choice}
+use Rattle.unit.specs.declared.Choice.the-variants.{At, Nowhere}
+use Rattle.unit.specs.Extents.{lats, lons, extremesOf}
+use Rattle.unit.specs.InExtents.{least-each, greatest-each, in-extents}
+use Rattle.unit.specs.Chosen.{Before, choose}
+use Rattle.unit.specs.Choosing.{InRange, Over, chosen-choose, none-choose}
+use Rattle.quick.specs.Asked.{ByLat, Levels, Ground, column, everywhere, tooWide, UnfitBefore}
+use Rattle.quick.specs.Kept.{gather, Same, southWest, oddAt, Sound, Listed}
+use Rattle.quick.specs.Best.{Wanted, Best, lefter, best-all, best-lat, best-lon}
+
+-- An answer of two tests in turn: the first where it holds
+pub or-first : {w a : Bool} (b : Bool) → w ≡ a → w ≡ true → w ≡ (a || b)
+or-first b is t = t ∙ sym (ap (λ (x : Bool). x || b) (sym is ∙ t))
+
+-- else the second
+pub or-second : {v w a b : Bool} → v ≡ a → v ≡ false → w ≡ b → w ≡ (a || b)
+or-second {b = b} is f e = e ∙ sym (ap (λ (x : Bool). x || b) (sym is ∙ f))
+
+-- At first there is no level before
+pub unfit-begin : (r : Rectangle) → UnfitBefore r 9
+unfit-begin r n less least = let none : ⊥ = omega arith in absurd none
+
+-- One more level that is too wide
+pub unfit-again : (r : Rectangle) {level : ℕ} → UnfitBefore r level → tooWide r level ≡ true → UnfitBefore r (level + 1)
+unfit-again r {level} before wide n less least =
+    let most : n ≤ level = omega arith in
+    at (eq-or-lt-of-le most)
+  where
+    at : (n ≡ level) ⊎ (n < level) → tooWide r n ≡ true
+    at (inl e) = subst (λ (m : ℕ). tooWide r m ≡ true) (sym e) wide
+    at (inr l) = before n l least
+
+-- An inside cell lies within the ground that a search is told of
+pub in-over : {corners : List Point} {r : Rectangle} → Over corners r → (d : Cell) → IsCell d → inside corners d ≡ true
+    → Within (sidesOf d) r
+in-over {corners} o d is t = subst (Within (sidesOf d)) (sym (o .own)) (in-extents corners d is t)
+
+-- A cell of a level that is too wide is not inside
+pub unfit-none : {corners : List Point} {r : Rectangle} → Over corners r → (d : Cell) → IsCell d → inside corners d ≡ true
+    → tooWide r (d .level) ≡ true → ⊥
+unfolding sidesOf
+unfit-none {corners} {r} o d is t wide =
+    by
+    (either (ltb (2 * distance (r .west .0) (r .east .0)) (sizeOf (d .level)))
+    (ltb (2 * distance (r .south .0) (r .north .0)) (sizeOf (d .level))) wide)
+  where
+    w : Within (sidesOf d) r
+    w = in-over o d is t
+
+    by : (ltb (2 * distance (r .west .0) (r .east .0)) (sizeOf (d .level)) ≡ true)
+        ⊎ (ltb (2 * distance (r .south .0) (r .north .0)) (sizeOf (d .level)) ≡ true) → ⊥
+    by (inl e) =
+        omega (
+          arith,
+          ltb-true (2 * distance (r .west .0) (r .east .0)) (sizeOf (d .level)) e,
+          half-wide (d .level) (d .west .0) (is .coarsest) (is .finest) (is .west),
+          w .west,
+          w .east,
+        )
+    by (inr e) =
+        omega (
+          arith,
+          ltb-true (2 * distance (r .south .0) (r .north .0)) (sizeOf (d .level)) e,
+          half-wide (d .level) (d .south .0) (is .coarsest) (is .finest) (is .south),
+          w .south,
+          w .north,
+        )
+
+-- The extremes of corners are in order
+extremes-order : (corners : List Point) → Ordered (extremesOf corners)
+unfolding extremesOf
+extremes-order [] = record { across = omega arith; up = omega arith }
+extremes-order (v ∷ vs) =
+    let west = least-each (lons (v ∷ vs)) .0 in
+    let east = greatest-each (lons (v ∷ vs)) .0 in
+    let south = least-each (lats (v ∷ vs)) .0 in
+    let north = greatest-each (lats (v ∷ vs)) .0 in
+    record { across = omega arith; up = omega arith }
+
+-- and so is the ground that a search is told of
+over-order : {corners : List Point} {r : Rectangle} → Over corners r → Ordered r
+over-order {corners} o = subst Ordered (sym (o .own)) (extremes-order corners)
+
+-- Entries that are the same are gathered the same
+gather-same : (room later : List ℕ) (n i : ℕ) → ((j : ℕ) → j < i + n → getD later j 0 ≡ getD room j 0) → gather later n i ≡ gather room n i
+gather-same room later zero i same = refl
+gather-same room later (suc n) i same =
+    ap₂ (λ (x : ℕ) (xs : List ℕ). x ∷ xs) (same i (omega arith)) (gather-same room later n (suc i) (λ j h. same j (omega arith)))
+
+-- so that all places stand in a later room with the same entries
+pub listed-same : {numbers room later : List ℕ} → Listed numbers room → length later ≡ length room
+    → Same (length numbers / 2) room later → Listed numbers later
+listed-same {numbers} {room} {later} l long same =
+    record {
+      fits = omega (arith, l .fits);
+      all = gather-same room later (length numbers / 2) 0 (λ j h. same j (omega arith)) ∙ l .all;
+    }
+
+-- What is known at first of the ground of a cell is so
+pub sound-all : {numbers room : List ℕ} {top : ℕ} {cell : Rectangle} {odd : Bool} → Listed numbers room → 9 ≤ top → top ≤ 27
+    → Ground top cell → odd ≡ oddAt numbers (southWest cell)
+    → Sound numbers room (record { ground = cell; odd = odd; from = 0; to = length numbers / 2 })
+sound-all {numbers} {room} {top} {cell} l coarsest finest g is =
+    let all : length numbers / 2 - 0 ≡ length numbers / 2 = omega arith in
+    record {
+      wide = record {
+        across = omega (arith, g .lon .high, low-below-high top (cell .west .0) coarsest finest);
+        up = omega (arith, g .lat .high, low-below-high top (cell .south .0) coarsest finest);
+      };
+      placed = record {
+        keeps =
+            subst (λ (es : List ℕ). Keeps (cornersOf numbers) cell (map (edgeAt numbers) es))
+            (sym (ap (λ (n : ℕ). gather room n 0) all ∙ l .all)) (keeps-places numbers cell);
+        first = omega arith;
+        last = l .fits;
+      };
+      odd = is;
+    }
+
+-- and so are the halvings that are left
+pub by-lat-all : {level top : ℕ} {cell : Rectangle} → Levels level top → Ground top cell → ByLat level (2 * (level - top)) cell
+by-lat-all {level} {top} {cell} l g =
+    let same : top ≡ level - 2 * (level - top) / 2 = omega (arith, l .below) in
+    record {
+      even = omega arith;
+      coarsest = omega (arith, l .coarsest, l .below);
+      finest = l .finest;
+      lat = subst (λ (n : ℕ). Span n (cell .south .0) (cell .north .0)) same (g .lat);
+      lon = subst (λ (n : ℕ). Span n (cell .west .0) (cell .east .0)) same (g .lon);
+      north-end = g .north-end;
+      east-end = g .east-end;
+    }
+
+-- A cell has room, across and up
+cell-across : (d : Cell) → IsCell d → sidesOf d .west .0 < sidesOf d .east .0
+unfolding sidesOf
+cell-across d is = low-below-high (d .level) (d .west .0) (is .coarsest) (is .finest)
+
+cell-up : (d : Cell) → IsCell d → sidesOf d .south .0 < sidesOf d .north .0
+unfolding sidesOf
+cell-up d is = low-below-high (d .level) (d .south .0) (is .coarsest) (is .finest)
+
+-- The ground between two longitudes and two latitudes
+abbrev pub between : Lon → Lon → ℕ → ℕ → Rectangle
+between west east from south = record { west = west; east = east; south = lat from; north = lat south }
+
+-- The column has been searched from a latitude up to a south side
+pub record UpTo (corners : List Point) (level top : ℕ) (west east : Lon) (from south : ℕ) (found : Choice) : Type 0 where
+  pub is : lowSide top south ≡ south
+  pub least : from ≤ south
+  pub most : south ≤ latEnd
+  pub best : Best corners level (between west east from south) found
+
+-- A side of the level to start from is one of the level that is searched
+finer : {level top a : ℕ} → Levels level top → lowSide top a ≡ a → lowSide level a ≡ a
+finer {level} {top} {a} l is = low-finer top level a (l .coarsest) (l .below) (l .finest) is
+
+-- That level is at most 27, and the level that is searched at least 9
+top-finest : {level top : ℕ} → Levels level top → top ≤ 27
+top-finest l = omega (arith, l .below, l .finest)
+
+level-coarsest : {level top : ℕ} → Levels level top → 9 ≤ level
+level-coarsest l = omega (arith, l .coarsest, l .below)
+
+module _ {corners : List Point} {r : Rectangle} (o : Over corners r) {level top : ℕ} (l : Levels level top) where
+  -- A cell that starts before the ground's north or east end ends within the range
+  pub north-most : {south : ℕ} → lowSide top south ≡ south → south < r .north .0 → highSide top south ≤ latEnd
+  north-most is less = side-end top (l .coarsest) (top-finest l) 90 is less (o .north-end)
+
+  pub east-most : {west : ℕ} → lowSide top west ≡ west → west < r .east .0 → highSide top west ≤ lonEnd
+  east-most is less = side-end top (l .coarsest) (top-finest l) 180 is less (o .east-end)
+
+  -- At first nothing has been searched
+  pub column-begin : (west east : Lon) {south : ℕ} → south ≡ lowSide top (r .south .0) → UpTo corners level top west east south south Nowhere
+  column-begin west east {south} e =
+      record {
+        is = subst (λ (n : ℕ). lowSide top n ≡ n) (sym e) (low-low top (l .coarsest) (top-finest l) (r .south .0));
+        least = omega arith;
+        most = omega (arith, low-most top (l .coarsest) (top-finest l) (r .south .0), over-order o .up, o .north-end);
+        best = λ d w. omega (arith, cell-up d (w .cell), w .lies .south, w .lies .north);
+      }
+
+  module _ {west east : Lon} {from south : ℕ} {found : Choice} (s : UpTo corners level top west east from south found) where
+    -- One more cell
+    pub column-again : {north : ℕ} (next : Choice) {whole : Choice} → south < r .north .0 → north ≡ highSide top south
+        → Best corners level (between west east south north) next → whole ≡ lefter found next
+        → UpTo corners level top west east from north whole
+    column-again {north} next {whole} less e best whole-is =
+        let more : south < north = omega (arith, low-below-high top south (l .coarsest) (top-finest l)) in
+        record {
+          is = subst (λ (n : ℕ). lowSide top n ≡ n) (sym e) (high-low top (l .coarsest) (top-finest l) south (s .is));
+          least = omega (arith, s .least);
+          most = omega (arith, north-most (s .is) less);
+          best =
+              subst (Best corners level (between west east from north)) (sym whole-is)
+              (best-lat corners level (level-coarsest l) (l .finest) (between west east from north) (lat south)
+              (finer l (s .is)) (s .least) (omega arith) found next (s .best) best);
+        }
+
+    -- At the end the ground has been searched
+    pub column-end : from ≡ lowSide top (r .south .0) → r .north .0 ≤ south → Best corners level (column west east) found
+    column-end e past =
+        best-all found (record { west = omega arith; east = omega arith; south = omega arith; north = s .most })
+        (λ d w.
+        let i = in-over o d (w .cell) (w .is) in
+        record {
+          west = w .lies .west;
+          east = w .lies .east;
+          south = omega (arith, low-most top (l .coarsest) (top-finest l) (r .south .0), i .south);
+          north = omega (arith, i .north);
+        })
+        (s .best)
+
+-- Nothing was found from the range's start to a west side
+pub record EastTo (corners : List Point) (level top west : ℕ) : Type 0 where
+  pub is : lowSide top west ≡ west
+  pub most : west ≤ lonEnd
+  pub none : Best corners level (column (lon 0) (lon west)) Nowhere
+
+module _ {corners : List Point} {r : Rectangle} (o : Over corners r) {level top : ℕ} (l : Levels level top) where
+  -- So it is at first, before the extents
+  pub level-begin : {west : ℕ} → west ≡ lowSide top (r .west .0) → EastTo corners level top west
+  level-begin {west} e =
+      let least = low-most top (l .coarsest) (top-finest l) (r .west .0) in
+      record {
+        is = subst (λ (n : ℕ). lowSide top n ≡ n) (sym e) (low-low top (l .coarsest) (top-finest l) (r .west .0));
+        most = omega (arith, over-order o .across, o .east-end);
+        none = λ d w. omega (arith, cell-across d (w .cell), in-over o d (w .cell) (w .is) .west, w .lies .east);
+      }
+
+  module _ {west east : ℕ} (s : EastTo corners level top west) (less : west < r .east .0) (e : east ≡ highSide top west) where
+    -- The next west side is one, within the range
+    next-is : lowSide top east ≡ east
+    next-is = subst (λ (n : ℕ). lowSide top n ≡ n) (sym e) (high-low top (l .coarsest) (top-finest l) west (s .is))
+
+    next-most : east ≤ lonEnd
+    next-most = omega (arith, east-most o l (s .is) less)
+
+    -- What one more column gives, the ground up to its east side gives
+    next-best : (found : Choice) → Best corners level (column (lon west) (lon east)) found
+        → Best corners level (column (lon 0) (lon east)) found
+    next-best found best =
+        best-lon corners level (level-coarsest l) (l .finest) (column (lon 0) (lon east)) (lon west)
+        (finer l (s .is)) (omega arith) (omega (arith, low-below-high top west (l .coarsest) (top-finest l)))
+        Nowhere found (s .none) (λ _. best)
+
+    -- A cell of it is the answer for all ground
+    pub level-found : {found : Choice} {c : Cell} → Best corners level (column (lon west) (lon east)) found → found ≡ At c
+        → Best corners level everywhere (At c)
+    level-found {found} {c} best is =
+        best-lon corners level (level-coarsest l) (l .finest) everywhere (lon east)
+        (finer l next-is) (omega arith) next-most
+        (At c) Nowhere (next-best (At c) (subst (Best corners level (column (lon west) (lon east))) is best))
+        (λ k. let none : _≡_ {A = ℕ} 0 1 = cc in absurd (omega arith))
+
+    -- Else the next is searched
+    pub level-again : {found : Choice} → Best corners level (column (lon west) (lon east)) found → found ≡ Nowhere
+        → EastTo corners level top east
+    level-again {found} best is =
+        record {
+          is = next-is;
+          most = next-most;
+          none = next-best Nowhere (subst (Best corners level (column (lon west) (lon east))) is best);
+        }
+
+  -- At the end nothing was found
+  pub level-end : {west : ℕ} → EastTo corners level top west → r .east .0 ≤ west → Best corners level everywhere Nowhere
+  level-end {west} s past =
+      best-all Nowhere (record { west = omega arith; east = s .most; south = omega arith; north = omega arith })
+      (λ d w.
+      record {
+        west = omega arith;
+        east = omega (arith, in-over o d (w .cell) (w .is) .east);
+        south = w .lies .south;
+        north = w .lies .north;
+      })
+      (s .none)
+
+-- No cell of a level before one is inside
+pub record NoneInside (corners : List Point) (level : ℕ) : Type 0 where
+  pub coarsest : 9 ≤ level
+  pub finest : level ≤ 28
+  pub none : (d : Cell) → IsCell d → inside corners d ≡ true → d .level < level → ⊥
+
+-- What passes a test, the test says, and the other way round
+said-true : (b : Bool) → T b → b ≡ true
+said-true true t = refl
+said-true false t = absurd t
+
+said-holds : {b : Bool} → b ≡ true → T b
+said-holds e = subst T (sym e) tt
+
+-- A cell that is inside is wanted somewhere
+wanted : {corners : List Point} {level : ℕ} (d : Cell) → IsCell d → inside corners d ≡ true → d .level ≡ level
+    → Wanted corners level everywhere d
+wanted d is t of =
+    record {
+      cell = is;
+      of = of;
+      is = t;
+      lies = record { west = omega arith; east = is .east-end; south = omega arith; north = is .north-end };
+    }
+
+module _ {corners : List Point} where
+  -- So it is for the levels that are too wide
+  pub levels-begin : {r : Rectangle} → Over corners r → {level : ℕ} → (9 ≤ level) × (level ≤ 28) → UnfitBefore r level
+      → NoneInside corners level
+  levels-begin o h unfit =
+      record {
+        coarsest = h .0;
+        finest = h .1;
+        none = λ d is t less. unfit-none o d is t (unfit (d .level) less (is .coarsest));
+      }
+
+  module _ {level : ℕ} (s : NoneInside corners level) where
+    -- A cell found is the chosen one
+    pub levels-found : InRange corners → {found : Choice} {c : Cell} → Best corners level everywhere found → found ≡ At c
+        → choose corners ≡ At c
+    levels-found range {found} {c} best is =
+        let b : Best corners level everywhere (At c) = subst (Best corners level everywhere) is best in
+        chosen-choose corners range
+        (record { cell = b .0 .cell; within = said-holds (b .0 .is); first = first b })
+      where
+        first : Best corners level everywhere (At c) → (d : Cell) → IsCell d → T (inside corners d) → Before d c → ⊥
+        first b d k t (inl h) = s .none d k (said-true (inside corners d) t) (omega (arith, b .0 .of))
+        first b d k t (inr (e, h)) = b .1 d (wanted d k (said-true (inside corners d) t) (e ∙ b .0 .of)) h
+
+    -- Else the next level is searched
+    pub levels-again : level < 28 → {found : Choice} → Best corners level everywhere found → found ≡ Nowhere
+        → NoneInside corners (level + 1)
+    levels-again less {found} best is =
+        let b : Best corners level everywhere Nowhere = subst (Best corners level everywhere) is best in
+        record { coarsest = omega (arith, s .coarsest); finest = omega arith; none = next b }
+      where
+        next : Best corners level everywhere Nowhere → (d : Cell) → IsCell d → inside corners d ≡ true → d .level < level + 1 → ⊥
+        next b d k t h = let most : d .level ≤ level = omega arith in at (eq-or-lt-of-le most)
+          where
+            at : (d .level ≡ level) ⊎ (d .level < level) → ⊥
+            at (inl e) = b d (wanted d k t e)
+            at (inr l) = s .none d k t l
+
+    -- At the end there is no chosen cell
+    pub levels-end : InRange corners → 28 ≤ level → choose corners ≡ Nowhere
+    levels-end range past =
+        none-choose corners range λ d is t. s .none d is (said-true (inside corners d) t) (omega (arith, is .finest))
