@@ -207,3 +207,14 @@ module _ (corners : List Point) (level : ℕ) (coarsest : 9 ≤ level) (finest :
       by : (d : Cell) → (Wanted corners level (westOf r at) d) ⊎ (Wanted corners level (eastOf r at) d) → ⊥
       by d (inl w) = s d w
       by d (inr w) = n refl d w
+
+  -- A cell that is found west of a longitude is the answer for the whole
+  pub best-west : (at : Lon) → lowSide level (at .0) ≡ at .0 → r .west .0 ≤ at .0 → at .0 ≤ r .east .0 → {c : Cell}
+      → Best corners level (westOf r at) (At c) → Best corners level r (At c)
+  best-west at is low high {c} w =
+      best-lon at is low high (At c) Nowhere w (λ e. let none : _≡_ {A = ℕ} 0 1 = cc in absurd (omega arith))
+
+  -- and where there is none, the answer east of it is
+  pub best-east : (at : Lon) → lowSide level (at .0) ≡ at .0 → r .west .0 ≤ at .0 → at .0 ≤ r .east .0 → (b : Choice)
+      → Best corners level (westOf r at) Nowhere → Best corners level (eastOf r at) b → Best corners level r b
+  best-east at is low high b w e = best-lon at is low high Nowhere b w (λ _. e)

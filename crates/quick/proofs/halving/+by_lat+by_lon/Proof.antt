@@ -1,18 +1,17 @@
 -- `quick::halving::by_lat` and `by_lon` meet their contracts, in one proof by the halvings that are left: passing over and the cell at the
 -- end give the answer, and the answers for two halves make that for the whole. Assumes nothing.
-use Prim.Native.Nat.{ℕ, _<_}
+use Prim.Native.Nat.{ℕ, _-_, _<_}
 use native.Mathlib.Omega.{arith}
-use mathlib.Core.Path.{_≡_, sym, subst, _∙_}
-use mathlib.Core.Bool.{true}
+use mathlib.Core.Path.{_≡_, refl, sym, subst, subst₂, _∙_}
 use borrow.Author.Needs.{needs}
 use borrow.Fn.Kinds.{In}
 use borrow.Fn.PlainCycle.{Measures, is, falls, and}
 use Rattle.ground.specs.declared.Rectangle.{Rectangle}
 use Rattle.boundary.specs.Corners.{cornersOf}
 use Rattle.unit.specs.declared.Choice.{Choice}
-use Rattle.unit.specs.declared.Choice.the-variants.{At, Nowhere}
+use Rattle.quick.specs.Kept.{Same}
 use Rattle.quick.specs.KeptLaws.{sound-same, same-then}
-use Rattle.quick.specs.Best.{Best, passed-none, best-lat, best-lon}
+use Rattle.quick.specs.Best.{Best, passed-none, best-lat, best-west, best-east}
 use Rattle.quick.specs.Asked.{ByLat, ByLon}
 use Rattle.quick.specs.HalfLaws.{LatHalves, lat-halved, lat-whole, LonHalves, lon-halved, lon-whole}
 use Rattle.quick.proofs.halving.by_lat.Reads as by-lat
@@ -85,6 +84,35 @@ lon-calls t = (
   east-half-reads.Learnt,
 )
 
+-- some halvings are left where the half is no cell yet
+lat-some : (t : ℕ) (c : by-lat-lts.Else3 (lat-calls t) (by-lat-at t) by-lat.Post) → 0 < c .before .before .before .before .before .before .before .before .before .before .before .before .args .left
+lat-some t c = omega (arith, c .before .before .before .before .before .before .if2 .left)
+
+-- the two halves by latitude
+lat-halves : (t : ℕ) (c : by-lat-lts.Else3 (lat-calls t) (by-lat-at t) by-lat.Post)
+    → LatHalves (c .before .before .before .before .before .before .before .before .before .before .before .before .args .level) (c .before .before .before .before .before .before .before .before .before .before .before .before .args .left) (c .before .before .before .before .before .before .before .before .before .before .before .before .args .half .ground) (c .before .before .before .lat-split .result)
+lat-halves t c = lat-halved (c .before .before .before .before .before .before .before .before .before .before .before .before .pre .1 .1) (lat-some t c) (c .before .before .before .lat-split .ensures) (c .if3 .left)
+
+-- and by longitude
+lon-halves : (t : ℕ) (c : by-lon-lts.Else2 (lon-calls t) (by-lon-at t) by-lon.Post)
+    → LonHalves (c .before .before .before .before .before .before .before .before .before .before .before .args .level) (c .before .before .before .before .before .before .before .before .before .before .before .args .left) (c .before .before .before .before .before .before .before .before .before .before .before .args .half .ground) (c .before .before .before .lon-split .result)
+lon-halves t c = lon-halved (c .before .before .before .before .before .before .before .before .before .before .before .pre .1 .1) (c .before .before .before .lon-split .ensures) (c .if2 .left)
+
+-- after the first of them was searched, the room is the same up to the whole's last place
+lat-kept : (t : ℕ) (c : by-lat-lts.After-by-lon2 (lat-calls t) (by-lat-at t) by-lat.Post)
+    → Same (c .before .before .before .before .before .before .before .before .before .before .before .before .before .before .before .before .before .before .args .half .to) (c .before .before .before .before .before .before .before .before .before .before .before .before .before .before .before .before .before .before .args .room .now) (c .by-lon2 .last .1 .0)
+lat-kept t c =
+    let low = c .before .before .before .before in
+    same-then (c .before .before .before .before .before .before .before .before .before .before .before .before .before .before .before .before .before .before .args .room .now) (low .south-half .last .1 .0) (c .by-lon2 .last .1 .0) (low .south-half .ensures .1 .0)
+    (low .south-half .ensures .1 .1) (c .by-lon2 .ensures .1)
+
+lon-kept : (t : ℕ) (c : by-lon-lts.After-by-lat2 (lon-calls t) (by-lon-at t) by-lon.Post)
+    → Same (c .before .before .before .before .before .before .before .before .before .before .before .before .before .before .before .before .before .args .half .to) (c .before .before .before .before .before .before .before .before .before .before .before .before .before .before .before .before .before .args .room .now) (c .by-lat2 .last .1 .0)
+lon-kept t c =
+    let low = c .before .before .before .before in
+    same-then (c .before .before .before .before .before .before .before .before .before .before .before .before .before .before .before .before .before .args .room .now) (low .west-half .last .1 .0) (c .by-lat2 .last .1 .0) (low .west-half .ensures .1 .0)
+    (low .west-half .ensures .1 .1) (c .by-lat2 .ensures .1)
+
 by-lat-passed-over-requires : (t : ℕ) → by-lat-lts.Need-passed-over-requires (lat-calls t) (by-lat-at t) by-lat.Post
 by-lat-passed-over-requires t c κs = search needs
 
@@ -92,49 +120,82 @@ by-lat-same-length : (t : ℕ) → by-lat-lts.Need-same-length (lat-calls t) (by
 by-lat-same-length t c = search needs
 
 by-lat-returns : (t : ℕ) → by-lat-lts.Need-returns (lat-calls t) (by-lat-at t) by-lat.Post
-by-lat-returns t c = ?
+by-lat-returns t c =
+    let start = c .before .before .before .before .before in
+    (passed-none (cornersOf (start .args .numbers .now)) (sym (c .before .passed-over .ensures) ∙ c .if1 .taken), λ j h. refl)
 
 by-lat-tried-requires : (t : ℕ) → by-lat-lts.Need-tried-requires (lat-calls t) (by-lat-at t) by-lat.Post
-by-lat-tried-requires t c κs = ?
+by-lat-tried-requires t c κs =
+    let start = c .before .before .before .before .before .before .before in
+    (start .pre .1 .0, subst (λ (n : ℕ). ByLat (start .args .level) n (start .args .half .ground)) (c .before .if2 .taken) (start .pre .1 .1))
 
 by-lat-same-length-2 : (t : ℕ) → by-lat-lts.Need-same-length-2 (lat-calls t) (by-lat-at t) by-lat.Post
 by-lat-same-length-2 t c = search needs
 
 by-lat-returns-2 : (t : ℕ) → by-lat-lts.Need-returns-2 (lat-calls t) (by-lat-at t) by-lat.Post
-by-lat-returns-2 t c = ?
+by-lat-returns-2 t c = (c .tried .ensures, λ j h. refl)
 
 by-lat-lat-split-requires : (t : ℕ) → by-lat-lts.Need-lat-split-requires (lat-calls t) (by-lat-at t) by-lat.Post
-by-lat-lat-split-requires t c κs = ?
+by-lat-lat-split-requires t c κs =
+    let start = c .before .before .before .before .before .before .before .before in
+    (start .pre .1 .1, omega (arith, c .before .before .if2 .left))
 
 by-lat-sub-by-lon : (t : ℕ) → by-lat-lts.Need-sub-by-lon (lat-calls t) (by-lat-at t) by-lat.Post
 by-lat-sub-by-lon t c = search needs
 
 by-lat-by-lon-requires : (t : ℕ) → by-lat-lts.Need-by-lon-requires (lat-calls t) (by-lat-at t) by-lat.Post
-by-lat-by-lon-requires t c κs = ?
+by-lat-by-lon-requires t c κs =
+    let start = c .before .before .before .before .before .before .before .before .before .before .before .before .before in
+    let some : 0 < start .args .left = omega (arith, c .before .before .before .before .before .before .before .if2 .left) in
+    (omega (arith, start .pre .0, some), (start .pre .1 .0, lat-whole (start .pre .1 .1) some (c .before .before .before .before .lat-split .ensures) (c .before .if3 .taken)))
 
 by-lat-same-length-3 : (t : ℕ) → by-lat-lts.Need-same-length-3 (lat-calls t) (by-lat-at t) by-lat.Post
 by-lat-same-length-3 t c = search needs
 
 by-lat-returns-3 : (t : ℕ) → by-lat-lts.Need-returns-3 (lat-calls t) (by-lat-at t) by-lat.Post
-by-lat-returns-3 t c = ?
+by-lat-returns-3 t c = c .before .before .by-lon .ensures
 
 by-lat-south-half-requires : (t : ℕ) → by-lat-lts.Need-south-half-requires (lat-calls t) (by-lat-at t) by-lat.Post
-by-lat-south-half-requires t c κs = ?
+by-lat-south-half-requires t c κs =
+    let start = c .before .before .before .before .before .before .before .before .before .before .before .before .before in
+    (start .pre .1 .0, lat-halves t (c .before) .between)
 
 by-lat-sub-by-lon-2 : (t : ℕ) → by-lat-lts.Need-sub-by-lon-2 (lat-calls t) (by-lat-at t) by-lat.Post
-by-lat-sub-by-lon-2 t c = search needs
+by-lat-sub-by-lon-2 t c = omega (arith, lat-some t (c .before .before .before .before .before))
 
 by-lat-by-lon-requires-2 : (t : ℕ) → by-lat-lts.Need-by-lon-requires-2 (lat-calls t) (by-lat-at t) by-lat.Post
-by-lat-by-lon-requires-2 t c κs = ?
+by-lat-by-lon-requires-2 t c κs =
+    let start = c .before .before .before .before .before .before .before .before .before .before .before .before .before .before .before .before .before in
+    let low = c .before .before .before in
+    (
+      omega (arith, start .pre .0, lat-some t (low .before .before)),
+      (
+        low .south-half .ensures .0 .1,
+        subst (ByLon (start .args .level) (start .args .left - 1)) (sym (low .south-half .ensures .0 .0)) (lat-halves t (low .before .before) .south),
+      ),
+    )
 
 by-lat-north-half-requires : (t : ℕ) → by-lat-lts.Need-north-half-requires (lat-calls t) (by-lat-at t) by-lat.Post
-by-lat-north-half-requires t c κs = ?
+by-lat-north-half-requires t c κs =
+    let first = c .before .before .before in
+    let start = first .before .before .before .before .before .before .before .before .before .before .before .before .before .before .before .before .before .before in
+    (sound-same (start .pre .1 .0) (lat-kept t first) (search needs), lat-halves t (first .before .before .before .before .before .before) .between)
 
 by-lat-sub-by-lon-3 : (t : ℕ) → by-lat-lts.Need-sub-by-lon-3 (lat-calls t) (by-lat-at t) by-lat.Post
-by-lat-sub-by-lon-3 t c = search needs
+by-lat-sub-by-lon-3 t c = omega (arith, lat-some t (c .before .before .before .before .before .before .before .before .before .before .before .before .before))
 
 by-lat-by-lon-requires-3 : (t : ℕ) → by-lat-lts.Need-by-lon-requires-3 (lat-calls t) (by-lat-at t) by-lat.Post
-by-lat-by-lon-requires-3 t c κs = ?
+by-lat-by-lon-requires-3 t c κs =
+    let high = c .before .before .before in
+    let other = high .before .before .before .before .before .before .before .before .before .before in
+    let start = other .before .before .before .before .before .before .before .before .before .before .before .before in
+    (
+      omega (arith, start .pre .0, lat-some t other),
+      (
+        high .north-half .ensures .0 .1,
+        subst (ByLon (start .args .level) (start .args .left - 1)) (sym (high .north-half .ensures .0 .0)) (lat-halves t other .north),
+      ),
+    )
 
 by-lat-lefter-requires : (t : ℕ) → by-lat-lts.Need-lefter-requires (lat-calls t) (by-lat-at t) by-lat.Post
 by-lat-lefter-requires t c κs = search needs
@@ -143,7 +204,29 @@ by-lat-same-length-4 : (t : ℕ) → by-lat-lts.Need-same-length-4 (lat-calls t)
 by-lat-same-length-4 t c = search needs
 
 by-lat-returns-4 : (t : ℕ) → by-lat-lts.Need-returns-4 (lat-calls t) (by-lat-at t) by-lat.Post
-by-lat-returns-4 t c = ?
+by-lat-returns-4 t c =
+    let second = c .before .before .before in
+    let high = second .before .before .before .before in
+    let first = high .before .before .before .before in
+    let low = first .before .before .before .before in
+    let other = low .before .before in
+    let start = other .before .before .before .before .before .before .before .before .before .before .before .before in
+    let corners = cornersOf (start .args .numbers .now) in
+    let level = start .args .level in
+    let ground = start .args .half .ground in
+    let halves = lat-halves t other in
+    let b = start .pre .1 .1 in
+    (
+      subst (Best corners level ground) (sym (c .lefter .ensures))
+          (best-lat corners level (omega (arith, b .coarsest)) (b .finest) ground (other .before .before .before .lat-split .result) (halves .side)
+          (omega (arith, halves .between .0)) (omega (arith, halves .between .1)) (first .by-lon2 .result) (second .by-lon3 .result)
+          (subst (λ (r : Rectangle). Best corners level r (first .by-lon2 .result)) (low .south-half .ensures .0 .0) (first .by-lon2 .ensures .0))
+          (subst (λ (r : Rectangle). Best corners level r (second .by-lon3 .result)) (high .north-half .ensures .0 .0) (second .by-lon3 .ensures .0))),
+      same-then (start .args .room .now) (high .north-half .last .1 .0) (second .by-lon3 .last .1 .0) (high .north-half .ensures .1 .0)
+          (same-then (start .args .room .now) (first .by-lon2 .last .1 .0) (high .north-half .last .1 .0) (omega arith) (lat-kept t first)
+          (high .north-half .ensures .1 .1))
+          (second .by-lon3 .ensures .1),
+    )
 
 by-lon-passed-over-requires : (t : ℕ) → by-lon-lts.Need-passed-over-requires (lon-calls t) (by-lon-at t) by-lon.Post
 by-lon-passed-over-requires t c κs = search needs
@@ -152,31 +235,49 @@ by-lon-same-length : (t : ℕ) → by-lon-lts.Need-same-length (lon-calls t) (by
 by-lon-same-length t c = search needs
 
 by-lon-returns : (t : ℕ) → by-lon-lts.Need-returns (lon-calls t) (by-lon-at t) by-lon.Post
-by-lon-returns t c = ?
+by-lon-returns t c =
+    let start = c .before .before .before .before .before in
+    (passed-none (cornersOf (start .args .numbers .now)) (sym (c .before .passed-over .ensures) ∙ c .if1 .taken), λ j h. refl)
 
 by-lon-lon-split-requires : (t : ℕ) → by-lon-lts.Need-lon-split-requires (lon-calls t) (by-lon-at t) by-lon.Post
-by-lon-lon-split-requires t c κs = ?
+by-lon-lon-split-requires t c κs = c .before .before .before .before .before .before .before .pre .1 .1
 
 by-lon-sub-by-lat : (t : ℕ) → by-lon-lts.Need-sub-by-lat (lon-calls t) (by-lon-at t) by-lon.Post
-by-lon-sub-by-lat t c = search needs
+by-lon-sub-by-lat t c = omega (arith, c .before .before .before .before .before .before .before .before .before .before .before .before .pre .1 .1 .odd)
 
 by-lon-by-lat-requires : (t : ℕ) → by-lon-lts.Need-by-lat-requires (lon-calls t) (by-lon-at t) by-lon.Post
-by-lon-by-lat-requires t c κs = ?
+by-lon-by-lat-requires t c κs =
+    let start = c .before .before .before .before .before .before .before .before .before .before .before .before in
+    (
+      omega (arith, start .pre .0, start .pre .1 .1 .odd),
+      (start .pre .1 .0, lon-whole (start .pre .1 .1) (c .before .before .before .before .lon-split .ensures) (c .before .if2 .taken)),
+    )
 
 by-lon-same-length-2 : (t : ℕ) → by-lon-lts.Need-same-length-2 (lon-calls t) (by-lon-at t) by-lon.Post
 by-lon-same-length-2 t c = search needs
 
 by-lon-returns-2 : (t : ℕ) → by-lon-lts.Need-returns-2 (lon-calls t) (by-lon-at t) by-lon.Post
-by-lon-returns-2 t c = ?
+by-lon-returns-2 t c = c .before .before .by-lat .ensures
 
 by-lon-west-half-requires : (t : ℕ) → by-lon-lts.Need-west-half-requires (lon-calls t) (by-lon-at t) by-lon.Post
-by-lon-west-half-requires t c κs = ?
+by-lon-west-half-requires t c κs =
+    let start = c .before .before .before .before .before .before .before .before .before .before .before .before in
+    (start .pre .1 .0, lon-halves t (c .before) .between)
 
 by-lon-sub-by-lat-2 : (t : ℕ) → by-lon-lts.Need-sub-by-lat-2 (lon-calls t) (by-lon-at t) by-lon.Post
-by-lon-sub-by-lat-2 t c = search needs
+by-lon-sub-by-lat-2 t c = omega (arith, c .before .before .before .before .before .before .before .before .before .before .before .before .before .before .before .before .pre .1 .1 .odd)
 
 by-lon-by-lat-requires-2 : (t : ℕ) → by-lon-lts.Need-by-lat-requires-2 (lon-calls t) (by-lon-at t) by-lon.Post
-by-lon-by-lat-requires-2 t c κs = ?
+by-lon-by-lat-requires-2 t c κs =
+    let start = c .before .before .before .before .before .before .before .before .before .before .before .before .before .before .before .before in
+    let low = c .before .before .before in
+    (
+      omega (arith, start .pre .0, start .pre .1 .1 .odd),
+      (
+        low .west-half .ensures .0 .1,
+        subst (ByLat (start .args .level) (start .args .left - 1)) (sym (low .west-half .ensures .0 .0)) (lon-halves t (low .before .before) .west),
+      ),
+    )
 
 by-lon-enum-known-first : (t : ℕ) → by-lon-lts.Need-enum-known-first (lon-calls t) (by-lon-at t) by-lon.Post
 by-lon-enum-known-first t c = search needs
@@ -185,25 +286,75 @@ by-lon-same-length-3 : (t : ℕ) → by-lon-lts.Need-same-length-3 (lon-calls t)
 by-lon-same-length-3 t c = search needs
 
 by-lon-returns-3 : (t : ℕ) → by-lon-lts.Need-returns-3 (lon-calls t) (by-lon-at t) by-lon.Post
-by-lon-returns-3 t c = ?
+by-lon-returns-3 t c =
+    let first = c .before .before .before .before .before in
+    let low = first .before .before .before .before in
+    let other = low .before .before in
+    let start = other .before .before .before .before .before .before .before .before .before .before .before in
+    let corners = cornersOf (start .args .numbers .now) in
+    let level = start .args .level in
+    let halves = lon-halves t other in
+    let b = start .pre .1 .1 in
+    (
+      best-west corners level (omega (arith, b .coarsest)) (b .finest) (start .args .half .ground) (other .before .before .before .lon-split .result) (halves .side)
+          (omega (arith, halves .between .0)) (omega (arith, halves .between .1))
+          (subst₂ (λ (r : Rectangle) (x : Choice). Best corners level r x) (low .west-half .ensures .0 .0) (c .before .first .given .1)
+          (first .by-lat2 .ensures .0)),
+      lon-kept t first,
+    )
 
 by-lon-enum-told : (t : ℕ) → by-lon-lts.Need-enum-told (lon-calls t) (by-lon-at t) by-lon.Post
 by-lon-enum-told t c = search needs
 
 by-lon-east-half-requires : (t : ℕ) → by-lon-lts.Need-east-half-requires (lon-calls t) (by-lon-at t) by-lon.Post
-by-lon-east-half-requires t c κs = ?
+by-lon-east-half-requires t c κs =
+    let first = c .before .before .before .before .before in
+    let start = first .before .before .before .before .before .before .before .before .before .before .before .before .before .before .before .before .before in
+    (sound-same (start .pre .1 .0) (lon-kept t first) (search needs), lon-halves t (first .before .before .before .before .before .before) .between)
 
 by-lon-sub-by-lat-3 : (t : ℕ) → by-lon-lts.Need-sub-by-lat-3 (lon-calls t) (by-lon-at t) by-lon.Post
-by-lon-sub-by-lat-3 t c = search needs
+by-lon-sub-by-lat-3 t c = omega (arith, c .before .before .before .before .before .before .before .before .before .before .before .before .before .before .before .before .before .before .before .before .before .before .before .before .before .before .pre .1 .1 .odd)
 
 by-lon-by-lat-requires-3 : (t : ℕ) → by-lon-lts.Need-by-lat-requires-3 (lon-calls t) (by-lon-at t) by-lon.Post
-by-lon-by-lat-requires-3 t c κs = ?
+by-lon-by-lat-requires-3 t c κs =
+    let high = c .before .before .before in
+    let other = high .before .before .before .before .before .before .before .before .before .before .before .before in
+    let start = other .before .before .before .before .before .before .before .before .before .before .before in
+    (
+      omega (arith, start .pre .0, start .pre .1 .1 .odd),
+      (
+        high .east-half .ensures .0 .1,
+        subst (ByLat (start .args .level) (start .args .left - 1)) (sym (high .east-half .ensures .0 .0)) (lon-halves t other .east),
+      ),
+    )
 
 by-lon-same-length-4 : (t : ℕ) → by-lon-lts.Need-same-length-4 (lon-calls t) (by-lon-at t) by-lon.Post
 by-lon-same-length-4 t c = search needs
 
 by-lon-returns-4 : (t : ℕ) → by-lon-lts.Need-returns-4 (lon-calls t) (by-lon-at t) by-lon.Post
-by-lon-returns-4 t c = ?
+by-lon-returns-4 t c =
+    let second = c .before .before in
+    let high = second .before .before .before .before in
+    let none = high .before .before in
+    let first = none .before .before .before .before in
+    let low = first .before .before .before .before in
+    let other = low .before .before in
+    let start = other .before .before .before .before .before .before .before .before .before .before .before in
+    let corners = cornersOf (start .args .numbers .now) in
+    let level = start .args .level in
+    let halves = lon-halves t other in
+    let b = start .pre .1 .1 in
+    (
+      best-east corners level (omega (arith, b .coarsest)) (b .finest) (start .args .half .ground) (other .before .before .before .lon-split .result) (halves .side)
+          (omega (arith, halves .between .0)) (omega (arith, halves .between .1)) (second .by-lat3 .result)
+          (subst₂ (λ (r : Rectangle) (x : Choice). Best corners level r x) (low .west-half .ensures .0 .0) (none .enum-told .given .1)
+          (first .by-lat2 .ensures .0))
+          (subst (λ (r : Rectangle). Best corners level r (second .by-lat3 .result)) (high .east-half .ensures .0 .0) (second .by-lat3 .ensures .0)),
+      same-then (start .args .room .now) (high .east-half .last .1 .0) (second .by-lat3 .last .1 .0) (high .east-half .ensures .1 .0)
+          (same-then (start .args .room .now) (first .by-lat2 .last .1 .0) (high .east-half .last .1 .0) (omega arith) (lon-kept t first)
+          (high .east-half .ensures .1 .1))
+          (second .by-lat3 .ensures .1),
+    )
 
 pub +by-lat+by-lon-spec : {M : Type 1} → statement M
 +by-lat+by-lon-spec =
