@@ -84,7 +84,8 @@ fn ring(count: i64, random: &mut Random) -> Vec<Spot> {
     let mut plan = Vec::new();
     for place in 0..count {
         let turn = (place as f64 + between(-0.3, 0.3, random)) * step;
-        let bays = waves.iter().map(|&((k, height), start)| height * on_circle(k * turn + start).east);
+        let bays =
+            waves.iter().map(|&((k, height), start)| height * on_circle(k * turn + start).east);
         // Roughness is in proportion to the edges, so that more corners do not make more capes.
         let radius = 1.0 + bays.sum::<f64>() + between(-1.0, 1.0, random) * step;
         let spot = on_circle(turn);

@@ -15,6 +15,10 @@ use std::io::{self, Write};
 use plan::Corner;
 use random::Random;
 
+const USAGE: &str = "usage: workloads KIND SEED COUNT
+KIND: houses fields coasts day corners:N extent:U slivers combs zigzags,
+      or shorter worst cases, slivers:U combs:U zigzags:U";
+
 /// A degree in u, the largest extent that is coded.
 pub const DEGREE: i64 = 7_372_800;
 
@@ -81,9 +85,7 @@ fn main() {
     match print_units(&words, &mut output) {
         Ok(true) => {}
         Ok(false) => {
-            eprintln!("usage: workloads KIND SEED COUNT");
-            eprintln!("KIND: houses fields coasts day corners:N extent:U");
-            eprintln!("      slivers combs zigzags, or of a smaller extent, slivers:U combs:U zigzags:U");
+            eprintln!("{USAGE}");
             std::process::exit(2);
         }
         Err(error) => {
