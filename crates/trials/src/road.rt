@@ -40,6 +40,7 @@ fn answer_unit(road: Road, size: usize, text: &[u8], out: &mut [u8], at: usize) 
         return lines::put(out, at, b"?");
     }
     code_into(
+        road,
         &mut room[0..size],
         &numbers[0..count],
         kind_of(letter),
@@ -56,8 +57,17 @@ fn kind_of(letter: u8) -> Kind {
     Kind::Other
 }
 
+// What a road says.
+fn code_by(road: Road, room: &mut [u8], numbers: &[u32], kind: Kind, number: u32) -> Coded {
+    match road {
+        Road::Plain => plain::code(room, numbers, kind, number),
+        Road::Quick => quick::code(room, numbers, kind, number),
+    }
+}
+
 // Codes a unit into the room.
 fn code_into(
+    road: Road,
     room: &mut [u8],
     numbers: &[u32],
     kind: Kind,
@@ -65,7 +75,7 @@ fn code_into(
     out: &mut [u8],
     at: usize,
 ) -> usize {
-    let said = plain::code(room, numbers, kind, number);
+    let said = code_by(road, room, numbers, kind, number);
     let end = lines::put_decimal(out, at, unit::coded_number(said) as u64);
     let end = lines::put(out, end, b" ");
     let end = lines::put_decimal(out, end, unit::coded_place(said) as u64);
