@@ -178,6 +178,11 @@ module _ (level : ℕ) (coarsest : 9 ≤ level) (finest : level < 27) {a b : ℕ
       none-between (level + 1) (omega arith) (omega arith) a b (low-half .low) high-next
       (omega (arith, s .high, low-below-high level a coarsest (omega arith)))
 
+  -- It has the nominal size, or ends with the whole
+  pub half-side : min (a + sizeOf (level + 1)) b ≡ highSide (level + 1) a
+  unfolding highSide
+  half-side = omega (arith, s .high, high-start level coarsest finest (s .low), half-most)
+
   -- The high half, where there is one
   pub high-half : highSide (level + 1) a < b → Span (level + 1) (highSide (level + 1) a) b
   unfolding highSide
@@ -202,46 +207,52 @@ module _ (level : ℕ) (coarsest : 9 ≤ level) (finest : level < 27) {a b : ℕ
 abbrev left : ℕ → ℕ
 left level = afresh level % sizeOf level
 
--- It is nothing, or at least half of the size, as the table of sizes tells
-last : (level : ℕ) → 9 ≤ level → level ≤ 27 → (left level ≡ 0) ⊎ (sizeOf level ≤ 2 * left level)
-unfolding sizeOf afresh
-last level coarsest finest =
-    at (eqb (left level) 0) (eqb→eq (left level) 0)
-    (one (λ l. cond (eqb (left l) 0) true (leb (sizeOf l) (2 * left l))) 19 tt level coarsest (omega arith))
-  where
-    at : (b : Bool) → (T b → left level ≡ 0) → T (cond b true (leb (sizeOf level) (2 * left level)))
-        → (left level ≡ 0) ⊎ (sizeOf level ≤ 2 * left level)
-    at true e t = inl (e tt)
-    at false e t = inr (leb→le (sizeOf level) (2 * left level) t)
+-- The least width of a level's cells, 0 for what is no level from 9 to 27: the nominal size, or what whole cells leave
+unfoldable pub narrowest : ℕ → ℕ
+narrowest level = cond (eqb (sizeOf level) 0) 0 (cond (eqb (left level) 0) (sizeOf level) (left level))
 
--- A cell is at least half as wide as its level's nominal size, cuts included
-pub half-wide : (level a : ℕ) → 9 ≤ level → level ≤ 27 → lowSide level a ≡ a → sizeOf level ≤ 2 * (highSide level a - a)
-unfolding highSide
-half-wide level a coarsest finest is =
+-- No cell is narrower, cuts included
+pub narrow-wide : (level a : ℕ) → 9 ≤ level → level ≤ 27 → lowSide level a ≡ a → narrowest level ≤ highSide level a - a
+unfolding highSide narrowest
+narrow-wide level a coarsest finest is =
     let h = side-told level coarsest finest a is in
     let whole = div-add-mod' (afresh level) (sizeOf level) in
     let less = mod-lt (afresh level) (some-size level coarsest finest) in
     let fewer : a % afresh level / sizeOf level < suc (afresh level / sizeOf level) =
     lt-of-mul-lt-mul-right (sizeOf level) (omega (arith, h .since)) in
-    at (eq-or-lt-of-le (le-of-suc-le-suc fewer)) (last level coarsest finest)
+    some (eqb (sizeOf level) 0) (λ e. eqb→eq (sizeOf level) 0 e) (at (eqb (left level) 0) (eqb→eq (left level) 0) (eq-or-lt-of-le (le-of-suc-le-suc fewer)))
   where
-    at : (a % afresh level / sizeOf level ≡ afresh level / sizeOf level) ⊎ (a % afresh level / sizeOf level < afresh level / sizeOf level)
-        → (left level ≡ 0) ⊎ (sizeOf level ≤ 2 * left level)
-        → sizeOf level ≤ 2 * (min (a + sizeOf level) (startOf level a + afresh level) - a)
-    at (inl e) (inl none) =
+    wide : ℕ
+    wide = min (a + sizeOf level) (startOf level a + afresh level) - a
+
+    some : (b : Bool) → (T b → sizeOf level ≡ 0) → {n : ℕ} → n ≤ wide → cond b 0 n ≤ wide
+    some true e h = omega arith
+    some false e h = h
+
+    at : (b : Bool) → (T b → left level ≡ 0)
+        → (a % afresh level / sizeOf level ≡ afresh level / sizeOf level) ⊎ (a % afresh level / sizeOf level < afresh level / sizeOf level)
+        → cond b (sizeOf level) (left level) ≤ wide
+    at true none (inl e) =
         let h = side-told level coarsest finest a is in
         let whole = div-add-mod' (afresh level) (sizeOf level) in
         let same = ap (λ (n : ℕ). n * sizeOf level) e in
-        omega (arith, h .since)
-    at (inl e) (inr wide) =
+        let no : ⊥ = omega (arith, h .since, none tt) in
+        absurd no
+    at false none (inl e) =
         let h = side-told level coarsest finest a is in
         let whole = div-add-mod' (afresh level) (sizeOf level) in
+        let less = mod-lt (afresh level) (some-size level coarsest finest) in
         let same = ap (λ (n : ℕ). n * sizeOf level) e in
         omega (arith, h .sum)
-    at (inr l) w =
+    at true none (inr fewer) =
         let h = side-told level coarsest finest a is in
         let whole = div-add-mod' (afresh level) (sizeOf level) in
-        omega (arith, h .sum, mul-le-mul-right (sizeOf level) l)
+        omega (arith, h .sum, mul-le-mul-right (sizeOf level) fewer)
+    at false none (inr fewer) =
+        let h = side-told level coarsest finest a is in
+        let whole = div-add-mod' (afresh level) (sizeOf level) in
+        let less = mod-lt (afresh level) (some-size level coarsest finest) in
+        omega (arith, h .sum, mul-le-mul-right (sizeOf level) fewer)
 
 -- A low side splits the cells of its level: each ends at or before it, or starts at or after it
 pub split : (level at d : ℕ) → 9 ≤ level → level ≤ 27 → lowSide level at ≡ at → lowSide level d ≡ d → (highSide level d ≤ at) ⊎ (at ≤ d)

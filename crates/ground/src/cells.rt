@@ -3,6 +3,7 @@ ghost use mathlib.Core.Path.{_≡_};
 ghost use Prim.Native.Nat.{_≤_};
 ghost use Rattle.ground.specs.Cells.{afresh as Cells·afresh, lowSide, highSide, centreOf, halfway as Cells·halfway};
 ghost use Rattle.ground.specs.CellTest.{isSide, sidesFound};
+ghost use Rattle.ground.specs.Halves.{narrowest as Halves·narrowest};
 use crate::Cell;
 use crate::Lat;
 use crate::Lon;
@@ -44,6 +45,18 @@ pub fn high_side(level: u32, a: u32) -> u64
     let full = a as u64 + size(level) as u64;
     let cut = (a / whole * whole) as u64 + whole as u64;
     if full < cut { full } else { cut }
+}
+
+// The least width of a level's cells, cuts included; 0 for what is no level from 9 to 27.
+pub fn narrowest(level: u32) -> u32
+    ensures { λ r. ⌜ r ≡ Halves·narrowest level ⌝ }
+{
+    let part = size(level);
+    if part == 0 {
+        return 0;
+    }
+    let left = afresh(level) % part;
+    if left == 0 { part } else { left }
 }
 
 // Whether an angle is the low side of a cell that ends at or before an end of the range.

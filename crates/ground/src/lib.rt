@@ -5,6 +5,7 @@ pub use cells::Sides;
 pub use cells::centre;
 pub use cells::high_side;
 pub use cells::low_side;
+pub use cells::narrowest;
 pub use cells::sides_found;
 ghost use mathlib.Core.Path.{_≡_};
 ghost use Rattle.ground.specs.Levels.{sizeOf, distance};

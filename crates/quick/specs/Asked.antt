@@ -1,12 +1,22 @@
 -- What the searches within this crate ask of their callers, and what they tell of a level. Assumes nothing.
-use Prim.Native.Nat.{ℕ, _+_, _-_, _*_, _/_, _%_, _≤_, _<_}
+use Prim.Native.Nat.{ℕ, _+_, _-_, _/_, _%_, _≤_, _<_}
 use mathlib.Core.Path.{_≡_}
 use mathlib.Core.Bool.{Bool, true, _||_}
+use mathlib.Core.List.{List}
 use lib.Dec.{ltb}
 use Rattle.ground.specs.declared.Lon.{Lon}
+use Rattle.ground.specs.declared.Point.{Point}
 use Rattle.ground.specs.declared.Rectangle.{Rectangle}
-use Rattle.ground.specs.Levels.{lat, lon, latEnd, lonEnd, distance, sizeOf}
-use Rattle.ground.specs.Halves.{Span}
+use Rattle.ground.specs.declared.Cell.{Cell}
+use Rattle.ground.specs.Levels.{lat, lon, latEnd, lonEnd, distance}
+use Rattle.ground.specs.Cells.{IsCell}
+use Rattle.ground.specs.Halves.{Span, narrowest}
+use Rattle.boundary.specs.Boundary.{inside}
+use Rattle.unit.specs.declared.Choice.the-variants.{At}
+use Rattle.unit.specs.Chosen.{choose}
+use Rattle.quick.specs.declared.search.Nearby.{Nearby}
+use Rattle.quick.specs.declared.search.Nearby.the-variants.{Found, Next}
+use Rattle.quick.specs.Kept.{Listed}
 
 -- Halvings that are left, latitude first: the ground is a cell's of the level that they lead down from
 pub record ByLat (level left : ℕ) (r : Rectangle) : Type 0 where
@@ -54,11 +64,30 @@ column west east = record { west = west; east = east; south = lat 0; north = lat
 abbrev pub everywhere : Rectangle
 everywhere = column (lon 0) (lon lonEnd)
 
--- The nominal size of a level is more than twice an extent: even cut cells of it are too wide
+-- The narrowest cells of a level are wider than an extent
 abbrev pub tooWide : Rectangle → ℕ → Bool
 tooWide r level =
-    ltb (2 * distance (r .west .0) (r .east .0)) (sizeOf level) || ltb (2 * distance (r .south .0) (r .north .0)) (sizeOf level)
+    ltb (distance (r .west .0) (r .east .0)) (narrowest level) || ltb (distance (r .south .0) (r .north .0)) (narrowest level)
 
 -- and so for each level before one
 abbrev pub UnfitBefore : Rectangle → ℕ → Type 0
 UnfitBefore r level = (n : ℕ) → n < level → 9 ≤ n → tooWide r n ≡ true
+
+-- Where halving starts from a coarser level, all places stand in the room
+abbrev pub Ready : List ℕ → List ℕ → ℕ → ℕ → Type 0
+Ready numbers room level top = top < level → Listed numbers room
+
+-- All places that stood in a room stand in it later
+abbrev pub StillListed : List ℕ → List ℕ → List ℕ → Type 0
+StillListed numbers room later = Listed numbers room → Listed numbers later
+
+-- No cell of a level before one is inside
+pub record NoneInside (corners : List Point) (level : ℕ) : Type 0 where
+  pub coarsest : 9 ≤ level
+  pub finest : level ≤ 28
+  pub none : (d : Cell) → IsCell d → inside corners d ≡ true → d .level < level → ⊥
+
+-- What the near levels tell: the chosen cell, or that no cell of a level before the next is inside
+abbrev pub Nearly : List Point → Nearby → Type 0
+Nearly corners (Found c) = choose corners ≡ At c
+Nearly corners (Next level) = NoneInside corners level

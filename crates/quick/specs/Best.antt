@@ -186,7 +186,7 @@ module _ (corners : List Point) (level : ℕ) (coarsest : 9 ≤ level) (finest :
               omega (arith, cell-room c (s .0 .cell) .up, s .0 .lies .north, w .lies .south)
 
   -- and the answer west of a longitude, or else the one east of it
-  pub best-lon : (at : Lon) → lowSide level (at .0) ≡ at .0 → r .west .0 ≤ at .0 → at .0 ≤ r .east .0 → (a b : Choice)
+  best-lon : (at : Lon) → lowSide level (at .0) ≡ at .0 → r .west .0 ≤ at .0 → at .0 ≤ r .east .0 → (a b : Choice)
       → Best corners level (westOf r at) a → (a ≡ Nowhere → Best corners level (eastOf r at) b)
       → Best corners level r (orElse a (λ _. b))
   unfolding sidesOf

@@ -157,11 +157,10 @@ module _ (corners : List Point) {level : ℕ} {r : Rectangle} (b : ByLat level 0
   -- So the answer for it is the cell, if it is inside
   pub best-cell : (unmet r (edgesOf corners) && pointInside (centreOf r) (edgesOf corners)) ≡ true → Best corners level r (At (cellOf level r))
   unfolding sidesOf
-  best-cell e =
-      (
-        record { cell = cell-cell; of = refl; is = cell-inside e; lies = subst (λ (x : Rectangle). Within x r) (sym ground-cell) (omega arith) },
-        λ d w l. not-lefter d w l,
-      )
+  best-cell e = (
+    record { cell = cell-cell; of = refl; is = cell-inside e; lies = subst (λ (x : Rectangle). Within x r) (sym ground-cell) (omega arith) },
+    λ d w l. not-lefter d w l,
+  )
     where
       not-lefter : (d : Cell) → Wanted corners level r d → Lefter d (cellOf level r) → ⊥
       not-lefter d w (inl k) = omega (arith, w .lies .west)
@@ -239,11 +238,6 @@ module _ {level left : ℕ} {r : Rectangle} (b : ByLat level left r) (some : 0 <
       by-lon-of (whole-half (level - left / 2) (omega (arith, b .coarsest)) (omega (arith, b .even, b .finest)) (b .lat) (sym e ∙ same))
       (b .north-end)
 
-  -- It is halved at or before its north side
-  pub lat-most : at .0 ≤ latEnd
-  lat-most =
-      omega (arith, b .north-end, e, half-most (level - left / 2) (omega (arith, b .coarsest)) (omega (arith, b .even, b .finest)) (b .lat))
-
 -- The halves of ground by longitude
 pub record LonHalves (level left : ℕ) (r : Rectangle) (at : Lon) : Type 0 where
   pub between : (r .west .0 < at .0) × (at .0 < r .east .0)
@@ -292,8 +286,3 @@ module _ {level left : ℕ} {r : Rectangle} (b : ByLon level left r) {at : Lon} 
   lon-whole same =
       by-lat-of (whole-half (level - left / 2 - 1) (omega (arith, b .coarsest)) (omega (arith, b .coarsest, b .finest)) (b .lon) (sym split-lon ∙ same))
       (b .east-end)
-
-  -- It is halved at or before its east side
-  pub lon-most : at .0 ≤ lonEnd
-  lon-most =
-      omega (arith, b .east-end, split-lon, half-most (level - left / 2 - 1) (omega (arith, b .coarsest)) (omega (arith, b .coarsest, b .finest)) (b .lon))

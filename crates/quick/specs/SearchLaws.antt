@@ -14,11 +14,11 @@ use Rattle.ground.specs.declared.Lon.{Lon}
 use Rattle.ground.specs.declared.Point.{Point}
 use Rattle.ground.specs.declared.Rectangle.{Rectangle}
 use Rattle.ground.specs.declared.Cell.{Cell}
-use Rattle.ground.specs.Levels.{lat, lon, latEnd, lonEnd, distance, sizeOf}
+use Rattle.ground.specs.Levels.{lat, lon, latEnd, lonEnd, distance}
 use Rattle.ground.specs.Cells.{lowSide, highSide, sidesOf, IsCell}
 use Rattle.ground.specs.CellTest.{low-below-high}
 use Rattle.ground.specs.Sides.{low-most, low-low, high-low, side-end}
-use Rattle.ground.specs.Halves.{Span, low-finer, half-wide}
+use Rattle.ground.specs.Halves.{Span, low-finer, narrowest, narrow-wide}
 use Rattle.boundary.specs.Boundary.{inside}
 use Rattle.boundary.specs.Corners.{cornersOf}
 use Rattle.boundary.specs.Missing.{Within, Ordered, either}
@@ -29,9 +29,10 @@ use Rattle.unit.specs.Extents.{lats, lons, extremesOf}
 use Rattle.unit.specs.InExtents.{least-each, greatest-each, in-extents}
 use Rattle.unit.specs.Chosen.{Before, choose}
 use Rattle.unit.specs.Choosing.{InRange, Over, chosen-choose, none-choose}
-use Rattle.quick.specs.Asked.{ByLat, Levels, Ground, column, everywhere, tooWide, UnfitBefore}
+use Rattle.quick.specs.Asked.{ByLat, Levels, Ground, column, everywhere, tooWide, UnfitBefore, Ready, NoneInside}
 use Rattle.quick.specs.Kept.{gather, Same, southWest, oddAt, Sound, Listed}
-use Rattle.quick.specs.Best.{Wanted, Best, lefter, best-all, best-lat, best-lon}
+use Rattle.quick.specs.KeptLaws.{gather-same}
+use Rattle.quick.specs.Best.{Wanted, Best, lefter, best-all, best-lat, best-west, best-east}
 
 -- An answer of two tests in turn: the first where it holds
 pub or-first : {w a : Bool} (b : Bool) → w ≡ a → w ≡ true → w ≡ (a || b)
@@ -66,27 +67,27 @@ pub unfit-none : {corners : List Point} {r : Rectangle} → Over corners r → (
 unfolding sidesOf
 unfit-none {corners} {r} o d is t wide =
     by
-    (either (ltb (2 * distance (r .west .0) (r .east .0)) (sizeOf (d .level)))
-    (ltb (2 * distance (r .south .0) (r .north .0)) (sizeOf (d .level))) wide)
+    (either (ltb (distance (r .west .0) (r .east .0)) (narrowest (d .level)))
+    (ltb (distance (r .south .0) (r .north .0)) (narrowest (d .level))) wide)
   where
     w : Within (sidesOf d) r
     w = in-over o d is t
 
-    by : (ltb (2 * distance (r .west .0) (r .east .0)) (sizeOf (d .level)) ≡ true)
-        ⊎ (ltb (2 * distance (r .south .0) (r .north .0)) (sizeOf (d .level)) ≡ true) → ⊥
+    by : (ltb (distance (r .west .0) (r .east .0)) (narrowest (d .level)) ≡ true)
+        ⊎ (ltb (distance (r .south .0) (r .north .0)) (narrowest (d .level)) ≡ true) → ⊥
     by (inl e) =
         omega (
           arith,
-          ltb-true (2 * distance (r .west .0) (r .east .0)) (sizeOf (d .level)) e,
-          half-wide (d .level) (d .west .0) (is .coarsest) (is .finest) (is .west),
+          ltb-true (distance (r .west .0) (r .east .0)) (narrowest (d .level)) e,
+          narrow-wide (d .level) (d .west .0) (is .coarsest) (is .finest) (is .west),
           w .west,
           w .east,
         )
     by (inr e) =
         omega (
           arith,
-          ltb-true (2 * distance (r .south .0) (r .north .0)) (sizeOf (d .level)) e,
-          half-wide (d .level) (d .south .0) (is .coarsest) (is .finest) (is .south),
+          ltb-true (distance (r .south .0) (r .north .0)) (narrowest (d .level)) e,
+          narrow-wide (d .level) (d .south .0) (is .coarsest) (is .finest) (is .south),
           w .south,
           w .north,
         )
@@ -106,19 +107,13 @@ extremes-order (v ∷ vs) =
 over-order : {corners : List Point} {r : Rectangle} → Over corners r → Ordered r
 over-order {corners} o = subst Ordered (sym (o .own)) (extremes-order corners)
 
--- Entries that are the same are gathered the same
-gather-same : (room later : List ℕ) (n i : ℕ) → ((j : ℕ) → j < i + n → getD later j 0 ≡ getD room j 0) → gather later n i ≡ gather room n i
-gather-same room later zero i same = refl
-gather-same room later (suc n) i same =
-    ap₂ (λ (x : ℕ) (xs : List ℕ). x ∷ xs) (same i (omega arith)) (gather-same room later n (suc i) (λ j h. same j (omega arith)))
-
--- so that all places stand in a later room with the same entries
+-- All places stand in a later room with the same entries
 pub listed-same : {numbers room later : List ℕ} → Listed numbers room → length later ≡ length room
     → Same (length numbers / 2) room later → Listed numbers later
 listed-same {numbers} {room} {later} l long same =
     record {
       fits = omega (arith, l .fits);
-      all = gather-same room later (length numbers / 2) 0 (λ j h. same j (omega arith)) ∙ l .all;
+      all = gather-same room later (length numbers / 2) 0 (λ j p q. same j (omega arith)) ∙ l .all;
     }
 
 -- What is known at first of the ground of a cell is so
@@ -150,6 +145,20 @@ by-lat-all {level} {top} {cell} l g =
       even = omega arith;
       coarsest = omega (arith, l .coarsest, l .below);
       finest = l .finest;
+      lat = subst (λ (n : ℕ). Span n (cell .south .0) (cell .north .0)) same (g .lat);
+      lon = subst (λ (n : ℕ). Span n (cell .west .0) (cell .east .0)) same (g .lon);
+      north-end = g .north-end;
+      east-end = g .east-end;
+    }
+
+-- With none left where halving starts from the level itself
+pub by-lat-none : {level : ℕ} {cell : Rectangle} → 9 ≤ level → level ≤ 27 → Ground level cell → ByLat level 0 cell
+by-lat-none {level} {cell} coarsest finest g =
+    let same : level ≡ level - 0 / 2 = omega arith in
+    record {
+      even = omega arith;
+      coarsest = omega arith;
+      finest = finest;
       lat = subst (λ (n : ℕ). Span n (cell .south .0) (cell .north .0)) same (g .lat);
       lon = subst (λ (n : ℕ). Span n (cell .west .0) (cell .east .0)) same (g .lon);
       north-end = g .north-end;
@@ -265,18 +274,17 @@ module _ {corners : List Point} {r : Rectangle} (o : Over corners r) {level top 
     next-best : (found : Choice) → Best corners level (column (lon west) (lon east)) found
         → Best corners level (column (lon 0) (lon east)) found
     next-best found best =
-        best-lon corners level (level-coarsest l) (l .finest) (column (lon 0) (lon east)) (lon west)
+        best-east corners level (level-coarsest l) (l .finest) (column (lon 0) (lon east)) (lon west)
         (finer l (s .is)) (omega arith) (omega (arith, low-below-high top west (l .coarsest) (top-finest l)))
-        Nowhere found (s .none) (λ _. best)
+        found (s .none) best
 
     -- A cell of it is the answer for all ground
     pub level-found : {found : Choice} {c : Cell} → Best corners level (column (lon west) (lon east)) found → found ≡ At c
         → Best corners level everywhere (At c)
     level-found {found} {c} best is =
-        best-lon corners level (level-coarsest l) (l .finest) everywhere (lon east)
+        best-west corners level (level-coarsest l) (l .finest) everywhere (lon east)
         (finer l next-is) (omega arith) next-most
-        (At c) Nowhere (next-best (At c) (subst (Best corners level (column (lon west) (lon east))) is best))
-        (λ k. let none : _≡_ {A = ℕ} 0 1 = cc in absurd (omega arith))
+        (next-best (At c) (subst (Best corners level (column (lon west) (lon east))) is best))
 
     -- Else the next is searched
     pub level-again : {found : Choice} → Best corners level (column (lon west) (lon east)) found → found ≡ Nowhere
@@ -300,12 +308,6 @@ module _ {corners : List Point} {r : Rectangle} (o : Over corners r) {level top 
         north = w .lies .north;
       })
       (s .none)
-
--- No cell of a level before one is inside
-pub record NoneInside (corners : List Point) (level : ℕ) : Type 0 where
-  pub coarsest : 9 ≤ level
-  pub finest : level ≤ 28
-  pub none : (d : Cell) → IsCell d → inside corners d ≡ true → d .level < level → ⊥
 
 -- What passes a test, the test says, and the other way round
 said-true : (b : Bool) → T b → b ≡ true

@@ -3,6 +3,7 @@
 ghost use Prim.Native.Nat.{_+_, _-_, _/_, _≤_, _<_};
 ghost use mathlib.Core.Path.{_≡_};
 ghost use Rattle.ground.specs.Cells.{highSide};
+ghost use Rattle.ground.specs.Halves.{Span};
 ghost use Rattle.quick.specs.Kept.{Same, Sound};
 ghost use Rattle.quick.specs.Best.{southOf, northOf, westOf, eastOf};
 ghost use Rattle.quick.specs.Asked.{ByLat, ByLon};
@@ -18,6 +19,17 @@ use ground::Lat;
 use ground::Lon;
 use ground::Rectangle;
 
+// Where a length of ground is halved: at the nominal size of the next level, or at its end, where
+// cut ground is not split.
+fn split(level: u32, low: u32, high: u32) -> u32
+    requires { ⌜ (10 ≤ level) × (level ≤ 27) × (high ≤ 1327104000) ⌝ }
+    requires { ⌜ Span (level - 1) low high ⌝ }
+    ensures { λ at. ⌜ at ≡ highSide level low ⌝ }
+{
+    let full = low + ground::size(level);
+    if full < high { full } else { high }
+}
+
 // The latitude at which ground is halved; its north side where it is not.
 pub(crate) fn lat_split(r: Rectangle, level: u32, left: u32) -> Lat
     requires { ⌜ ByLat level left r ⌝ }
@@ -25,7 +37,8 @@ pub(crate) fn lat_split(r: Rectangle, level: u32, left: u32) -> Lat
     ensures { λ at. ⌜ at .0 ≡ highSide (level - left / 2 + 1) (r .south .0) ⌝ }
 {
     let south = r.south;
-    Lat(ground::high_side(level - left / 2 + 1, south.0) as u32)
+    let north = r.north;
+    Lat(split(level - left / 2 + 1, south.0, north.0))
 }
 
 // The longitude at which ground is halved; its east side where it is not.
@@ -34,7 +47,8 @@ pub(crate) fn lon_split(r: Rectangle, level: u32, left: u32) -> Lon
     ensures { λ at. ⌜ at .0 ≡ highSide (level - left / 2) (r .west .0) ⌝ }
 {
     let west = r.west;
-    Lon(ground::high_side(level - left / 2, west.0) as u32)
+    let east = r.east;
+    Lon(split(level - left / 2, west.0, east.0))
 }
 
 // The half south of a latitude: it has the whole's south-west corner.

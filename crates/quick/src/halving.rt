@@ -22,7 +22,10 @@ fn passed_over(numbers: &[u32], room: &[u16], half: Half) -> bool
     requires { ⌜ Sound (now numbers) (now room) half ⌝ }
     ensures { λ p. ⌜ p ≡ passesOver (cornersOf (now (numbers .entry))) (half .ground) ⌝ }
 {
-    !half.odd && unmet(numbers, room, half)
+    if half.odd {
+        return false;
+    }
+    unmet(numbers, room, half)
 }
 
 // The cell of a level that a half is, if it is inside.

@@ -13,7 +13,9 @@ ghost use Rattle.unit.specs.Chosen.{choose};
 ghost use Rattle.unit.specs.Choosing.{InRange, Over};
 ghost use Rattle.unit.specs.Unit.{coding};
 ghost use Rattle.unit.specs.Frame.{leaves};
+ghost use Rattle.quick.specs.Asked.{NoneInside};
 use ground::Rectangle;
+use search::Nearby;
 use unit::Choice;
 use unit::Coded;
 use unit::Kind;
@@ -31,28 +33,29 @@ pub fn code(room: &mut [u8], numbers: &[u32], kind: Kind, number: u32) -> Coded
     unit::finish(room, r, number, chosen(numbers, r))
 }
 
-// The chosen cell, in a room for the places of kept edges: a small one where there are few corners,
-// since making it costs as much as it holds.
+// The chosen cell: near levels cell by cell, and then the others by halving.
 fn chosen(numbers: &[u32], r: Rectangle) -> Choice
     requires { ⌜ length (now numbers) / 2 ≤ 1024 ⌝ }
     requires { ⌜ Over (cornersOf (now numbers)) r ⌝ }
     requires { ⌜ InRange (cornersOf (now numbers)) ⌝ }
     ensures { λ c. ⌜ c ≡ choose (cornersOf (now (numbers .entry))) ⌝ }
 {
-    if numbers.len() / 2 <= 40 {
-        return few(numbers, r);
+    let near = search::near(numbers, r);
+    match near {
+        Nearby::Found(c) => Choice::At(c),
+        Nearby::Next(level) => far(numbers, r, level),
     }
-    let mut places = [0u16; 38912];
-    search::chosen(numbers, &mut places, r)
 }
 
-// The same for at most 40 corners.
-fn few(numbers: &[u32], r: Rectangle) -> Choice
-    requires { ⌜ length (now numbers) / 2 ≤ 40 ⌝ }
+// The search by halving, with a room for the places of kept edges; where it is full, edges are kept
+// that need not be.
+fn far(numbers: &[u32], r: Rectangle, level: u32) -> Choice
+    requires { ⌜ length (now numbers) / 2 ≤ 1024 ⌝ }
     requires { ⌜ Over (cornersOf (now numbers)) r ⌝ }
     requires { ⌜ InRange (cornersOf (now numbers)) ⌝ }
+    requires { ⌜ NoneInside (cornersOf (now numbers)) level ⌝ }
     ensures { λ c. ⌜ c ≡ choose (cornersOf (now (numbers .entry))) ⌝ }
 {
-    let mut places = [0u16; 1520];
-    search::chosen(numbers, &mut places, r)
+    let mut places = [0u16; 16384];
+    search::far(numbers, &mut places, r, level)
 }

@@ -1,32 +1,23 @@
 // The search for the chosen cell: the levels in turn whose cells can fit the extents, and for each of
 // them the halves of the few cells of a coarser level that lie over the extents.
-ghost use Prim.Native.Nat.{_*_, _/_, _≤_};
+ghost use Prim.Native.Nat.{_/_, _≤_, _<_};
 ghost use mathlib.Core.Path.{_≡_};
-ghost use lib.Dec.{ltb};
 ghost use lib.ListN.{length};
-ghost use Rattle.ground.specs.Levels.{distance, sizeOf};
 ghost use Rattle.boundary.specs.Corners.{cornersOf};
 ghost use Rattle.unit.specs.Chosen.{choose};
 ghost use Rattle.unit.specs.Choosing.{InRange, Over};
-ghost use Rattle.quick.specs.Kept.{Listed};
 ghost use Rattle.quick.specs.Best.{Best};
-ghost use Rattle.quick.specs.Asked.{Levels, Ground, Column, column, everywhere, tooWide, UnfitBefore};
+ghost use Rattle.quick.specs.Asked.{Levels, Ground, Column, column, everywhere, tooWide, UnfitBefore, Ready, StillListed, NoneInside, Nearly};
 use crate::half::Half;
 use crate::half::corner_of;
 use crate::halving::by_lat;
 use crate::halving::lefter;
 use crate::kept::list_all;
+use ground::Cell;
 use ground::Lat;
 use ground::Lon;
 use ground::Rectangle;
 use unit::Choice;
-
-// Whether the size of a level is more than twice the distance of two angles.
-fn too_wide(level: u32, a: u32, b: u32) -> bool
-    ensures { λ w. ⌜ w ≡ ltb (2 * distance a b) (sizeOf level) ⌝ }
-{
-    2 * (ground::apart(a, b) as u64) < ground::size(level) as u64
-}
 
 // Whether cells of a level are too wide for the extents.
 fn unfit(r: Rectangle, level: u32) -> bool
@@ -36,7 +27,8 @@ fn unfit(r: Rectangle, level: u32) -> bool
     let east = r.east;
     let south = r.south;
     let north = r.north;
-    too_wide(level, west.0, east.0) || too_wide(level, south.0, north.0)
+    let least = ground::narrowest(level);
+    ground::apart(west.0, east.0) < least || ground::apart(south.0, north.0) < least
 }
 
 // The coarsest level whose cells can fit the extents, or 28.
@@ -54,14 +46,16 @@ fn first_level(r: Rectangle) -> u32
     level
 }
 
-// Whether the cells of a level are smaller than an extent.
-fn small(r: Rectangle, level: u32) -> bool {
+// Whether so many cells of a level in a row are shorter than an extent.
+fn short(r: Rectangle, level: u32, cells: u32) -> bool
+    requires { ⌜ 0 < cells ⌝ }
+{
     let west = r.west;
     let east = r.east;
     let south = r.south;
     let north = r.north;
     let size = ground::size(level);
-    size < ground::apart(west.0, east.0) || size < ground::apart(south.0, north.0)
+    size < ground::apart(west.0, east.0) / cells || size < ground::apart(south.0, north.0) / cells
 }
 
 // A level to start halving from: the finest, up to the one that is searched, whose cells are not
@@ -72,7 +66,7 @@ fn top_of(r: Rectangle, level: u32) -> u32
 {
     let mut top = level;
     while 9 < top {
-        if !small(r, top) {
+        if !short(r, top, 1) {
             return top;
         }
         top -= 1;
@@ -80,14 +74,31 @@ fn top_of(r: Rectangle, level: u32) -> u32
     top
 }
 
-// The first of a level in one cell of a coarser level.
+// A cell of the level itself, if it is inside.
+fn at_once(numbers: &[u32], cell: Rectangle, level: u32) -> Choice
+    requires { ⌜ (9 ≤ level) × (level ≤ 27) ⌝ }
+    requires { ⌜ Ground level cell ⌝ }
+    ensures { λ c. ⌜ Best (cornersOf (now (numbers .entry))) level cell c ⌝ }
+{
+    if boundary::unmet(numbers, cell) && boundary::odd_count(numbers, ground::centre(cell)) {
+        let west = cell.west;
+        let south = cell.south;
+        return Choice::At(Cell { level, west, south });
+    }
+    Choice::Nowhere
+}
+
+// The first of a level in one cell of it, or of a coarser level.
 fn in_cell(numbers: &[u32], room: &mut [u16], cell: Rectangle, level: u32, top: u32) -> Choice
-    requires { ⌜ Listed (now numbers) (now room) ⌝ }
+    requires { ⌜ Ready (now numbers) (now room) level top ⌝ }
     requires { ⌜ Levels level top ⌝ }
     requires { ⌜ Ground top cell ⌝ }
     ensures { λ c. ⌜ Best (cornersOf (now (numbers .entry))) level cell c ⌝ }
-    ensures { λ _. ⌜ Listed (now (numbers .entry)) (now (room .exit)) ⌝ }
+    ensures { λ _. ⌜ StillListed (now (numbers .entry)) (now (room .entry)) (now (room .exit)) ⌝ }
 {
+    if top == level {
+        return at_once(numbers, cell, level);
+    }
     let half = Half {
         ground: cell,
         odd: boundary::odd_count(numbers, corner_of(cell)),
@@ -107,12 +118,12 @@ fn in_column(
     west: Lon,
     east: Lon,
 ) -> Choice
-    requires { ⌜ Listed (now numbers) (now room) ⌝ }
+    requires { ⌜ Ready (now numbers) (now room) level top ⌝ }
     requires { ⌜ Over (cornersOf (now numbers)) r ⌝ }
     requires { ⌜ Levels level top ⌝ }
     requires { ⌜ Column top west east ⌝ }
     ensures { λ c. ⌜ Best (cornersOf (now (numbers .entry))) level (column west east) c ⌝ }
-    ensures { λ _. ⌜ Listed (now (numbers .entry)) (now (room .exit)) ⌝ }
+    ensures { λ _. ⌜ StillListed (now (numbers .entry)) (now (room .entry)) (now (room .exit)) ⌝ }
 {
     let from = r.south;
     let to = r.north;
@@ -133,14 +144,13 @@ fn in_column(
 }
 
 // The first of a level: a coarser level's west sides in turn.
-fn in_level(numbers: &[u32], room: &mut [u16], r: Rectangle, level: u32) -> Choice
-    requires { ⌜ Listed (now numbers) (now room) ⌝ }
+fn in_level(numbers: &[u32], room: &mut [u16], r: Rectangle, level: u32, top: u32) -> Choice
+    requires { ⌜ Ready (now numbers) (now room) level top ⌝ }
     requires { ⌜ Over (cornersOf (now numbers)) r ⌝ }
-    requires { ⌜ (9 ≤ level) × (level ≤ 27) ⌝ }
+    requires { ⌜ Levels level top ⌝ }
     ensures { λ c. ⌜ Best (cornersOf (now (numbers .entry))) level everywhere c ⌝ }
-    ensures { λ _. ⌜ Listed (now (numbers .entry)) (now (room .exit)) ⌝ }
+    ensures { λ _. ⌜ StillListed (now (numbers .entry)) (now (room .entry)) (now (room .exit)) ⌝ }
 {
-    let top = top_of(r, level);
     let from = r.west;
     let to = r.east;
     let mut west = ground::low_side(top, from.0);
@@ -155,18 +165,63 @@ fn in_level(numbers: &[u32], room: &mut [u16], r: Rectangle, level: u32) -> Choi
     Choice::Nowhere
 }
 
-// The chosen cell: levels up to 27 in turn.
-pub(crate) fn chosen(numbers: &[u32], room: &mut [u16], r: Rectangle) -> Choice
+// What the near levels tell: the chosen cell, or the level to go on with.
+pub enum Nearby {
+    Found(Cell),
+    Next(u32),
+}
+
+// How many cells in a row are near: more where there are few corners, since each cell costs them.
+fn near_cells(numbers: &[u32]) -> u32
+    ensures { λ n. ⌜ 0 < n ⌝ }
+{
+    if numbers.len() / 2 <= 256 { 16 } else { 4 }
+}
+
+// The first of a level, cell by cell: nothing is kept.
+fn near_level(numbers: &[u32], r: Rectangle, level: u32) -> Choice
+    requires { ⌜ Over (cornersOf (now numbers)) r ⌝ }
+    requires { ⌜ Levels level level ⌝ }
+    ensures { λ c. ⌜ Best (cornersOf (now (numbers .entry))) level everywhere c ⌝ }
+{
+    let mut none = [0u16; 1];
+    in_level(numbers, &mut none, r, level, level)
+}
+
+// Searches the levels of which few cells lie over the extents, cell by cell.
+pub(crate) fn near(numbers: &[u32], r: Rectangle) -> Nearby
+    requires { ⌜ Over (cornersOf (now numbers)) r ⌝ }
+    requires { ⌜ InRange (cornersOf (now numbers)) ⌝ }
+    ensures { λ n. ⌜ Nearly (cornersOf (now (numbers .entry))) n ⌝ }
+{
+    let cells = near_cells(numbers);
+    let mut level = first_level(r);
+    while level < 28 {
+        if short(r, level, cells) {
+            return Nearby::Next(level);
+        }
+        let found = near_level(numbers, r, level);
+        if let Choice::At(c) = found {
+            return Nearby::Found(c);
+        }
+        level += 1;
+    }
+    Nearby::Next(level)
+}
+
+// The chosen cell: levels from one up to 27 in turn, by halving.
+pub(crate) fn far(numbers: &[u32], room: &mut [u16], r: Rectangle, start: u32) -> Choice
     requires { ⌜ length (now numbers) / 2 ≤ length (now room) ⌝ }
     requires { ⌜ length (now numbers) / 2 ≤ 1024 ⌝ }
     requires { ⌜ Over (cornersOf (now numbers)) r ⌝ }
     requires { ⌜ InRange (cornersOf (now numbers)) ⌝ }
+    requires { ⌜ NoneInside (cornersOf (now numbers)) start ⌝ }
     ensures { λ c. ⌜ c ≡ choose (cornersOf (now (numbers .entry))) ⌝ }
 {
     list_all(numbers, room);
-    let mut level = first_level(r);
+    let mut level = start;
     while level < 28 {
-        let found = in_level(numbers, room, r, level);
+        let found = in_level(numbers, room, r, level, top_of(r, level));
         if let Choice::At(c) = found {
             return Choice::At(c);
         }

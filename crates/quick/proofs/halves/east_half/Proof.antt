@@ -30,8 +30,7 @@ part-of-requires : tie.Need-part-of-requires
 part-of-requires c κs =
     let told = c .before in
     let made = told .before .before .before in
-    let start = made .before .before .before in
-    (
+    let start = made .before .before .before in (
       start .pre .0,
       (part made, told .odd-at .ensures ∙ ap (λ (p : Point). oddAt (start .args .numbers .now) p) (told .before .corner-of .ensures)),
     )

@@ -1,28 +1,30 @@
--- `quick::halves::lat_split` meets its contract: ground is halved within the range, so the side fits. Assumes nothing.
+-- `quick::halves::lat_split` meets its contract: the ground is that of a cell of the level before. Assumes nothing.
+use Prim.Native.Nat.{ℕ, _+_, _-_, _/_}
 use native.Mathlib.Omega.{arith}
+use mathlib.Core.Path.{_≡_, subst}
 use borrow.Author.Needs.{needs}
-use Rattle.ground.specs.Levels.{lat}
-use Rattle.quick.specs.HalfLaws.{lat-most}
+use Rattle.ground.specs.Halves.{Span}
 use Rattle.quick.proofs.halves.lat_split.Statement.{statement}
 use Rattle.quick.proofs.halves.lat_split.Tie as tie
 
-sub-high-side : tie.Need-sub-high-side
-sub-high-side c = search needs
+sub-split : tie.Need-sub-split
+sub-split c = search needs
 
-add-high-side : tie.Need-add-high-side
-add-high-side c = search needs
+add-split : tie.Need-add-split
+add-split c = search needs
 
-high-side-requires : tie.Need-high-side-requires
-high-side-requires c κs = search needs
-
-cast-t9 : tie.Need-cast-t9
-cast-t9 c =
+split-requires : tie.Need-split-requires
+split-requires c κs =
     let start = c .before .before in
-    omega (arith, lat-most (start .pre .0) (start .pre .1) {at = lat (c .high-side .result)} (c .high-side .ensures))
+    let a = start .args in
+    let b = start .pre .0 in
+    let before : a .level - a .left / 2 ≡ a .level - a .left / 2 + 1 - 1 = omega arith in (
+      (omega (arith, b .coarsest), omega (arith, b .even, b .finest, start .pre .1), omega (arith, b .north-end)),
+      subst (λ (n : ℕ). Span n (a .r .south .0) (a .r .north .0)) before (b .lat),
+    )
 
 returns : tie.Need-returns
 returns c = search needs
 
 pub lat-split-spec : {M : Type 1} → statement M
-lat-split-spec =
-    tie.close (tie.spec sub-high-side add-high-side high-side-requires cast-t9 returns)
+lat-split-spec = tie.close (tie.spec sub-split add-split split-requires returns)

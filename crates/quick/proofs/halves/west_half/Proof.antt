@@ -14,8 +14,7 @@ part-of-requires : tie.Need-part-of-requires
 part-of-requires c κs =
     let start = c .before .before .before .before in
     let h = start .args .half in
-    let e = c .west-of .ensures in
-    (
+    let e = c .west-of .ensures in (
       start .pre .0,
       (
         subst (Part h) (sym e) (west-part (start .pre .0) (start .args .at) (start .pre .1)),

@@ -166,8 +166,7 @@ by-lat-sub-by-lon-2 t c = omega (arith, lat-some t (c .before .before .before .b
 by-lat-by-lon-requires-2 : (t : ℕ) → by-lat-lts.Need-by-lon-requires-2 (lat-calls t) (by-lat-at t) by-lat.Post
 by-lat-by-lon-requires-2 t c κs =
     let start = c .before .before .before .before .before .before .before .before .before .before .before .before .before .before .before .before .before in
-    let low = c .before .before .before in
-    (
+    let low = c .before .before .before in (
       omega (arith, start .pre .0, lat-some t (low .before .before)),
       (
         low .south-half .ensures .0 .1,
@@ -188,8 +187,7 @@ by-lat-by-lon-requires-3 : (t : ℕ) → by-lat-lts.Need-by-lon-requires-3 (lat-
 by-lat-by-lon-requires-3 t c κs =
     let high = c .before .before .before in
     let other = high .before .before .before .before .before .before .before .before .before .before in
-    let start = other .before .before .before .before .before .before .before .before .before .before .before .before in
-    (
+    let start = other .before .before .before .before .before .before .before .before .before .before .before .before in (
       omega (arith, start .pre .0, lat-some t other),
       (
         high .north-half .ensures .0 .1,
@@ -215,8 +213,7 @@ by-lat-returns-4 t c =
     let level = start .args .level in
     let ground = start .args .half .ground in
     let halves = lat-halves t other in
-    let b = start .pre .1 .1 in
-    (
+    let b = start .pre .1 .1 in (
       subst (Best corners level ground) (sym (c .lefter .ensures))
           (best-lat corners level (omega (arith, b .coarsest)) (b .finest) ground (other .before .before .before .lat-split .result) (halves .side)
           (omega (arith, halves .between .0)) (omega (arith, halves .between .1)) (first .by-lon2 .result) (second .by-lon3 .result)
@@ -247,8 +244,7 @@ by-lon-sub-by-lat t c = omega (arith, c .before .before .before .before .before 
 
 by-lon-by-lat-requires : (t : ℕ) → by-lon-lts.Need-by-lat-requires (lon-calls t) (by-lon-at t) by-lon.Post
 by-lon-by-lat-requires t c κs =
-    let start = c .before .before .before .before .before .before .before .before .before .before .before .before in
-    (
+    let start = c .before .before .before .before .before .before .before .before .before .before .before .before in (
       omega (arith, start .pre .0, start .pre .1 .1 .odd),
       (start .pre .1 .0, lon-whole (start .pre .1 .1) (c .before .before .before .before .lon-split .ensures) (c .before .if2 .taken)),
     )
@@ -270,8 +266,7 @@ by-lon-sub-by-lat-2 t c = omega (arith, c .before .before .before .before .befor
 by-lon-by-lat-requires-2 : (t : ℕ) → by-lon-lts.Need-by-lat-requires-2 (lon-calls t) (by-lon-at t) by-lon.Post
 by-lon-by-lat-requires-2 t c κs =
     let start = c .before .before .before .before .before .before .before .before .before .before .before .before .before .before .before .before in
-    let low = c .before .before .before in
-    (
+    let low = c .before .before .before in (
       omega (arith, start .pre .0, start .pre .1 .1 .odd),
       (
         low .west-half .ensures .0 .1,
@@ -294,8 +289,7 @@ by-lon-returns-3 t c =
     let corners = cornersOf (start .args .numbers .now) in
     let level = start .args .level in
     let halves = lon-halves t other in
-    let b = start .pre .1 .1 in
-    (
+    let b = start .pre .1 .1 in (
       best-west corners level (omega (arith, b .coarsest)) (b .finest) (start .args .half .ground) (other .before .before .before .lon-split .result) (halves .side)
           (omega (arith, halves .between .0)) (omega (arith, halves .between .1))
           (subst₂ (λ (r : Rectangle) (x : Choice). Best corners level r x) (low .west-half .ensures .0 .0) (c .before .first .given .1)
@@ -319,8 +313,7 @@ by-lon-by-lat-requires-3 : (t : ℕ) → by-lon-lts.Need-by-lat-requires-3 (lon-
 by-lon-by-lat-requires-3 t c κs =
     let high = c .before .before .before in
     let other = high .before .before .before .before .before .before .before .before .before .before .before .before in
-    let start = other .before .before .before .before .before .before .before .before .before .before .before in
-    (
+    let start = other .before .before .before .before .before .before .before .before .before .before .before in (
       omega (arith, start .pre .0, start .pre .1 .1 .odd),
       (
         high .east-half .ensures .0 .1,
@@ -343,8 +336,7 @@ by-lon-returns-4 t c =
     let corners = cornersOf (start .args .numbers .now) in
     let level = start .args .level in
     let halves = lon-halves t other in
-    let b = start .pre .1 .1 in
-    (
+    let b = start .pre .1 .1 in (
       best-east corners level (omega (arith, b .coarsest)) (b .finest) (start .args .half .ground) (other .before .before .before .lon-split .result) (halves .side)
           (omega (arith, halves .between .0)) (omega (arith, halves .between .1)) (second .by-lat3 .result)
           (subst₂ (λ (r : Rectangle) (x : Choice). Best corners level r x) (low .west-half .ensures .0 .0) (none .enum-told .given .1)

@@ -1,11 +1,32 @@
--- `quick::search::in_cell` meets its contract: all edges are kept for the cell, and the halving leaves their places. Assumes nothing.
+-- `quick::search::in_cell` meets its contract: a cell of the level at once; else all edges are kept for the cell, and the halving leaves
+-- their places. Assumes nothing.
+use Prim.Native.Nat.{ℕ, _<_}
 use native.Mathlib.Omega.{arith}
-use mathlib.Core.Path.{ap, _∙_}
-use Rattle.quick.specs.Kept.{oddAt}
+use mathlib.Core.Path.{_≡_, ap, subst, sym, _∙_}
+use Rattle.quick.specs.Kept.{oddAt, Listed}
+use Rattle.quick.specs.Best.{Best}
+use Rattle.quick.specs.Asked.{Ground}
 use Rattle.quick.specs.SearchLaws.{listed-same, sound-all, by-lat-all}
 use borrow.Author.Needs.{needs}
 use Rattle.quick.proofs.search.in_cell.Statement.{statement}
 use Rattle.quick.proofs.search.in_cell.Tie as tie
+
+-- where halving starts from a coarser level
+coarser : (c : tie.Else1) → c .before .before .before .args .top < c .before .before .before .args .level
+coarser c =
+    let start = c .before .before .before in
+    omega (arith, start .pre .1 .0 .below, c .if1 .left)
+
+at-once-requires : tie.Need-at-once-requires
+at-once-requires c κs =
+    let start = c .before .before .before in
+    let levels = start .pre .1 .0 in (
+      (omega (arith, levels .coarsest, levels .below), levels .finest),
+      subst (λ (n : ℕ). Ground n (start .args .cell)) (c .if1 .taken) (start .pre .1 .1),
+    )
+
+returns : tie.Need-returns
+returns c = (c .at-once .ensures, λ l. l)
 
 corner-of-requires : tie.Need-corner-of-requires
 corner-of-requires c κs = search needs
@@ -21,10 +42,11 @@ mul-by-lat c = search needs
 
 by-lat-requires : tie.Need-by-lat-requires
 by-lat-requires c κs =
-    let start = c .before .before .before .before .before in
+    let other = c .before .before .before in
+    let start = other .before .before .before in
     let levels = start .pre .1 .0 in
     let ground = start .pre .1 .1 in (
-      sound-all (start .pre .0) (levels .coarsest) (omega (arith, levels .below, levels .finest)) ground
+      sound-all (start .pre .0 (coarser other)) (levels .coarsest) (omega (arith, levels .below, levels .finest)) ground
           (c .before .odd-count .ensures ∙ ap (oddAt (start .args .numbers .now)) (c .before .before .corner-of .ensures)),
       by-lat-all levels ground,
     )
@@ -32,22 +54,21 @@ by-lat-requires c κs =
 same-length : tie.Need-same-length
 same-length c = search needs
 
-returns : tie.Need-returns
-returns c =
-    let start = c .before .before .before .before .before .before .before .before in
-    let by-lat = c .before .before in (
-      by-lat .by-lat .ensures .0,
-      listed-same (start .pre .0) (search needs) (by-lat .by-lat .ensures .1),
-    )
+returns-2 : tie.Need-returns-2
+returns-2 c =
+    let by-lat = c .before .before in
+    (by-lat .by-lat .ensures .0, λ l. listed-same l (search needs) (by-lat .by-lat .ensures .1))
 
 pub in-cell-spec : {M : Type 1} → statement M
 in-cell-spec =
     tie.close
     (tie.spec
+    at-once-requires
+    returns
     corner-of-requires
     odd-count-requires
     sub-by-lat
     mul-by-lat
     by-lat-requires
     same-length
-    returns)
+    returns-2)

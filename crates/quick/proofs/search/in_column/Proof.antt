@@ -7,14 +7,14 @@ use lib.ListN.{length}
 use Rattle.ground.specs.Levels.{latEnd}
 use Rattle.ground.specs.CellTest.{low-below-high}
 use Rattle.boundary.specs.Corners.{cornersOf}
-use Rattle.quick.specs.Kept.{Listed}
+use Rattle.quick.specs.Asked.{StillListed}
 use Rattle.quick.specs.SearchLaws.{UpTo, north-most, column-begin, column-again, column-end}
 use Rattle.quick.proofs.search.in_column.Statement.{statement}
 use Rattle.quick.proofs.search.in_column.Tie as tie
 
 abbrev Inv-loop : tie.InvT-loop
 Inv-loop numbers room₀ level top west east to found₀ south₀ room found south =
-    Listed numbers room × (length room ≡ length room₀) × UpTo (cornersOf numbers) level top west east south₀ south found
+    StillListed numbers room₀ room × (length room ≡ length room₀) × UpTo (cornersOf numbers) level top west east south₀ south found
 
 abbrev μ-loop : tie.MeasureT-loop
 μ-loop numbers room₀ level top west east to found₀ south₀ room found south = to .0 - south
@@ -32,7 +32,7 @@ low-side-requires c κs = search needs
 loop-holds : tie.Need-loop-holds Inv-loop μ-loop
 loop-holds c =
     let start = c .before .before .before .before .before in
-    (start .pre .0, search needs, column-begin (start .pre .1 .0) (start .pre .1 .1 .0) (start .args .west) (start .args .east) (c .low-side .ensures))
+    (λ l. l, search needs, column-begin (start .pre .1 .0) (start .pre .1 .1 .0) (start .args .west) (start .args .east) (c .low-side .ensures))
 
 high-side-requires : tie.Need-high-side-requires Inv-loop μ-loop
 high-side-requires c κs = search needs
@@ -45,7 +45,7 @@ in-cell-requires c κs =
     let loop = c .before .before .before .before in
     let start = loop .before .before .before .before .before .before in
     let column = start .pre .1 .1 .1 in (
-      loop .loop .inv .0,
+      λ less. loop .loop .inv .0 (start .pre .0 less),
       (
         start .pre .1 .1 .0,
         record {
@@ -74,7 +74,7 @@ loop-again c =
     let high = cell .before .before in
     let loop = high .before .before .before in
     let start = loop .before .before .before .before .before .before in (
-      cell .in-cell .ensures .1,
+      λ l. cell .in-cell .ensures .1 (loop .loop .inv .0 l),
       search needs,
       column-again (start .pre .1 .0) (start .pre .1 .1 .0) (loop .loop .inv .2) (cell .in-cell .result)
           (high .before .if1 .taken) (high .high-side .ensures) (cell .in-cell .ensures .0) (c .lefter .ensures),

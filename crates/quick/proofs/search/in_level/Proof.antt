@@ -7,42 +7,32 @@ use lib.ListN.{length}
 use Rattle.ground.specs.Levels.{lonEnd}
 use Rattle.ground.specs.CellTest.{low-below-high}
 use Rattle.boundary.specs.Corners.{cornersOf}
-use Rattle.quick.specs.Kept.{Listed}
-use Rattle.quick.specs.Asked.{Levels}
+use Rattle.quick.specs.Asked.{StillListed}
 use Rattle.quick.specs.SearchLaws.{EastTo, east-most, level-begin, level-found, level-again, level-end}
 use Rattle.quick.proofs.search.in_level.Statement.{statement}
 use Rattle.quick.proofs.search.in_level.Tie as tie
 
 abbrev Inv-loop : tie.InvT-loop
 Inv-loop numbers room₀ r level top to west₀ room west =
-    Listed numbers room × (length room ≡ length room₀) × EastTo (cornersOf numbers) level top west
+    StillListed numbers room₀ room × (length room ≡ length room₀) × EastTo (cornersOf numbers) level top west
 
 abbrev μ-loop : tie.MeasureT-loop
 μ-loop numbers room₀ r level top to west₀ room west = to .0 - west
-
--- the level to start halving from
-levels : (c : tie.After-top-of Inv-loop μ-loop) → Levels (c .before .before .before .args .level) (c .top-of .result)
-levels c =
-    record { coarsest = c .top-of .ensures .0; below = c .top-of .ensures .1; finest = c .before .before .before .pre .1 .1 .1 }
 
 -- the next west side is within the range
 next : (c : tie.After-high-side Inv-loop μ-loop) → c .high-side .result ≤ lonEnd
 next c =
     let loop = c .before .before .before in
-    let top = loop .before .before .before .before in
-    omega (arith, c .high-side .ensures, east-most (top .before .before .before .pre .1 .0) (levels top) (loop .loop .inv .2 .is) (c .before .if1 .taken))
-
-top-of-requires : tie.Need-top-of-requires Inv-loop μ-loop
-top-of-requires c κs = c .before .before .pre .1 .1 .0
+    let start = loop .before .before .before .before .before .before in
+    omega (arith, c .high-side .ensures, east-most (start .pre .1 .0) (start .pre .1 .1) (loop .loop .inv .2 .is) (c .before .if1 .taken))
 
 low-side-requires : tie.Need-low-side-requires Inv-loop μ-loop
 low-side-requires c κs = search needs
 
 loop-holds : tie.Need-loop-holds Inv-loop μ-loop
 loop-holds c =
-    let top = c .before .before .before in
-    let start = top .before .before .before in
-    (start .pre .0, search needs, level-begin (start .pre .1 .0) (levels top) (c .low-side .ensures))
+    let start = c .before .before .before .before .before in
+    (λ l. l, search needs, level-begin (start .pre .1 .0) (start .pre .1 .1) (c .low-side .ensures))
 
 high-side-requires : tie.Need-high-side-requires Inv-loop μ-loop
 high-side-requires c κs = search needs
@@ -53,13 +43,12 @@ cast-east c = omega (arith, next c)
 in-column-requires : tie.Need-in-column-requires Inv-loop μ-loop
 in-column-requires c κs =
     let loop = c .before .before .before .before in
-    let top = loop .before .before .before .before in
-    let start = top .before .before .before in (
-      loop .loop .inv .0,
+    let start = loop .before .before .before .before .before .before in (
+      λ less. loop .loop .inv .0 (start .pre .0 less),
       (
         start .pre .1 .0,
         (
-          levels top,
+          start .pre .1 .1,
           record {
             lon = record { low = loop .loop .inv .2 .is; high = c .before .high-side .ensures };
             east-end = next (c .before);
@@ -79,10 +68,10 @@ returns c =
     let column = c .before .before .before .before .before in
     let high = column .before .before in
     let loop = high .before .before .before in
-    let top = loop .before .before .before .before in (
-      level-found (top .before .before .before .pre .1 .0) (levels top) (loop .loop .inv .2) (high .before .if1 .taken) (high .high-side .ensures)
+    let start = loop .before .before .before .before .before .before in (
+      level-found (start .pre .1 .0) (start .pre .1 .1) (loop .loop .inv .2) (high .before .if1 .taken) (high .high-side .ensures)
           (column .in-column .ensures .0) (c .before .found .given .1),
-      column .in-column .ensures .1,
+      λ l. column .in-column .ensures .1 (loop .loop .inv .0 l),
     )
 
 enum-told : tie.Need-enum-told Inv-loop μ-loop
@@ -92,19 +81,19 @@ loop-less : tie.Need-loop-less Inv-loop μ-loop
 loop-less c =
     let high = c .before .before .before .before .before .before in
     let loop = high .before .before .before in
-    let top = loop .before .before .before .before in
-    let l = levels top in
-    omega (arith, high .high-side .ensures, low-below-high (top .top-of .result) (loop .loop .west) (l .coarsest) (omega (arith, l .below, l .finest)), high .before .if1 .taken)
+    let start = loop .before .before .before .before .before .before in
+    let l = start .pre .1 .1 in
+    omega (arith, high .high-side .ensures, low-below-high (start .args .top) (loop .loop .west) (l .coarsest) (omega (arith, l .below, l .finest)), high .before .if1 .taken)
 
 loop-again : tie.Need-loop-again Inv-loop μ-loop
 loop-again c =
     let column = c .before .before .before .before in
     let high = column .before .before in
     let loop = high .before .before .before in
-    let top = loop .before .before .before .before in (
-      column .in-column .ensures .1,
+    let start = loop .before .before .before .before .before .before in (
+      λ l. column .in-column .ensures .1 (loop .loop .inv .0 l),
       search needs,
-      level-again (top .before .before .before .pre .1 .0) (levels top) (loop .loop .inv .2) (high .before .if1 .taken) (high .high-side .ensures)
+      level-again (start .pre .1 .0) (start .pre .1 .1) (loop .loop .inv .2) (high .before .if1 .taken) (high .high-side .ensures)
           (column .in-column .ensures .0) (c .enum-told .given .1),
     )
 
@@ -114,8 +103,8 @@ same-length-2 c = c .before .before .loop .inv .1
 returns-2 : tie.Need-returns-2 Inv-loop μ-loop
 returns-2 c =
     let loop = c .before .before in
-    let top = loop .before .before .before .before in
-    (level-end (top .before .before .before .pre .1 .0) (levels top) (loop .loop .inv .2) (c .if1 .left), loop .loop .inv .0)
+    let start = loop .before .before .before .before .before .before in
+    (level-end (start .pre .1 .0) (start .pre .1 .1) (loop .loop .inv .2) (c .if1 .left), loop .loop .inv .0)
 
 pub in-level-spec : {M : Type 1} → statement M
 in-level-spec =
@@ -123,7 +112,6 @@ in-level-spec =
     (tie.spec
     Inv-loop
     μ-loop
-    top-of-requires
     low-side-requires
     loop-holds
     high-side-requires

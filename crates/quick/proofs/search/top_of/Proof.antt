@@ -14,8 +14,8 @@ abbrev μ-loop : tie.MeasureT-loop
 loop-holds : tie.Need-loop-holds Inv-loop μ-loop
 loop-holds c = (c .pre, omega arith)
 
-small-requires : tie.Need-small-requires Inv-loop μ-loop
-small-requires c κs = search needs
+short-requires : tie.Need-short-requires Inv-loop μ-loop
+short-requires c κs = search needs
 
 returns : tie.Need-returns Inv-loop μ-loop
 returns c = c .before .before .before .loop .inv
@@ -41,7 +41,7 @@ top-of-spec =
     Inv-loop
     μ-loop
     loop-holds
-    small-requires
+    short-requires
     returns
     sub-top
     loop-less

@@ -1,0 +1,85 @@
+-- `quick::search::near` meets its contract: no cell of a level before `level` is inside. Assumes nothing.
+use Prim.Native.Nat.{_-_}
+use native.Mathlib.Omega.{arith}
+use borrow.Author.Needs.{needs}
+use Rattle.boundary.specs.Corners.{cornersOf}
+use Rattle.quick.specs.Asked.{NoneInside}
+use Rattle.quick.specs.SearchLaws.{levels-begin, levels-found, levels-again}
+use Rattle.quick.proofs.search.near.Statement.{statement}
+use Rattle.quick.proofs.search.near.Tie as tie
+
+abbrev Inv-loop : tie.InvT-loop
+Inv-loop numbers r cells level₀ level = NoneInside (cornersOf numbers) level
+
+abbrev μ-loop : tie.MeasureT-loop
+μ-loop numbers r cells level₀ level = 28 - level
+
+near-cells-requires : tie.Need-near-cells-requires Inv-loop μ-loop
+near-cells-requires c κs = search needs
+
+first-level-requires : tie.Need-first-level-requires Inv-loop μ-loop
+first-level-requires c κs = search needs
+
+loop-holds : tie.Need-loop-holds Inv-loop μ-loop
+loop-holds c = levels-begin (c .before .before .before .pre .0) (c .first-level .ensures .0) (c .first-level .ensures .1)
+
+short-requires : tie.Need-short-requires Inv-loop μ-loop
+short-requires c κs = c .before .before .before .near-cells .ensures
+
+returns : tie.Need-returns Inv-loop μ-loop
+returns c = c .before .before .before .loop .inv
+
+near-level-requires : tie.Need-near-level-requires Inv-loop μ-loop
+near-level-requires c κs =
+    let test = c .before .before in
+    let loop = test .before in (
+      loop .before .before .before .before .pre .0,
+      record { coarsest = loop .loop .inv .coarsest; below = omega arith; finest = omega (arith, test .loop-test .taken) },
+    )
+
+enum-known-found : tie.Need-enum-known-found Inv-loop μ-loop
+enum-known-found c = search needs
+
+returns-2 : tie.Need-returns-2 Inv-loop μ-loop
+returns-2 c =
+    let level = c .before .before .before in
+    let loop = level .before .before .before .before in
+    levels-found (loop .loop .inv) (loop .before .before .before .before .pre .1) (level .near-level .ensures) (c .before .found .given .1)
+
+enum-told : tie.Need-enum-told Inv-loop μ-loop
+enum-told c = search needs
+
+add-level : tie.Need-add-level Inv-loop μ-loop
+add-level c = search needs
+
+loop-less : tie.Need-loop-less Inv-loop μ-loop
+loop-less c = search needs
+
+loop-again : tie.Need-loop-again Inv-loop μ-loop
+loop-again c =
+    let level = c .before .before in
+    let test = level .before .before .before in
+    levels-again (test .before .loop .inv) (omega (arith, test .loop-test .taken)) (level .near-level .ensures) (c .enum-told .given .1)
+
+returns-3 : tie.Need-returns-3 Inv-loop μ-loop
+returns-3 c = c .before .loop .inv
+
+pub near-spec : {M : Type 1} → statement M
+near-spec =
+    tie.close
+    (tie.spec
+    Inv-loop
+    μ-loop
+    near-cells-requires
+    first-level-requires
+    loop-holds
+    short-requires
+    returns
+    near-level-requires
+    enum-known-found
+    returns-2
+    enum-told
+    add-level
+    loop-less
+    loop-again
+    returns-3)
