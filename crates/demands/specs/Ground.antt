@@ -1,0 +1,86 @@
+-- The mission's demand 3 between the two roads: what each road leaves, by its own promise, is the same for lists of one ground. Each list
+-- has a room of its own. Assumes nothing.
+use Prim.Native.Nat.{ℕ}
+use native.Mathlib.Omega.{arith}
+use mathlib.Core.Path.{_≡_, refl, ap, ap₂, sym, _∙_}
+use mathlib.Core.List.{List, _++_}
+use lib.ListN.{take, drop, length}
+use lib.Seq.{take-at}
+use Rattle.replies.specs.Replies.{Said, accepted, run, Outcome, outcome}
+use Rattle.code.specs.declared.Fields.{Fields}
+use Rattle.code.specs.Code.{valuesOf, codeOf}
+use Rattle.boundary.specs.Corners.{cornersOf}
+use Rattle.boundary.specs.Changes.{SameGround}
+use Rattle.unit.specs.declared.Kind.{Kind}
+use Rattle.unit.specs.declared.Choice.{Choice}
+use Rattle.unit.specs.declared.Coded.{Coded}
+use Rattle.unit.specs.declared.Coded.the-variants as coded
+use Rattle.unit.specs.Extents.{extremesOf}
+use Rattle.unit.specs.Chosen.{choose}
+use Rattle.unit.specs.Unit.{fieldsOf, codeAt, cornerChecks, coding}
+use Rattle.unit.specs.Frame.{says, leaves}
+use Rattle.unit.specs.SameGround.{Counted, number-same, code-same}
+use Rattle.unit.specs.Cover as cover
+
+-- The same code or the same refusal number: the numbers are the same, and where they are 0 so are bytes 0 to 19 of the two rooms
+abbrev pub SameAnswer : Coded → List ℕ → Coded → List ℕ → Type 0
+SameAnswer quick one plain other = (says quick .number ≡ says plain .number) × (says quick .number ≡ 0 → take 20 one ≡ take 20 other)
+
+-- The number 0 is acceptance's alone
+zero-accepts : (a : Coded) → says a .number ≡ 0 → says a ≡ accepted
+zero-accepts coded.Accepted e = refl
+zero-accepts coded.Output e = absurd (omega arith)
+zero-accepts coded.Pairs e = absurd (omega arith)
+zero-accepts coded.Corners e = absurd (omega arith)
+zero-accepts (coded.Range corner) e = absurd (omega arith)
+zero-accepts coded.Extent e = absurd (omega arith)
+zero-accepts coded.Number e = absurd (omega arith)
+zero-accepts coded.NoCell e = absurd (omega arith)
+zero-accepts coded.Span e = absurd (omega arith)
+
+-- A code has twenty bytes
+code-twenty : (f : Fields) → length (codeOf f) ≡ 20
+unfolding codeOf valuesOf
+code-twenty f = refl
+
+module _ (kind : Kind) (number : ℕ) where
+  -- The number of coding, where checks 1 to 3 pass, is told by the corners
+  number-told : (room numbers : List ℕ) → Counted room numbers
+      → coding room numbers kind number .said .number ≡ run (cornerChecks (cornersOf numbers) kind number) .number
+  unfolding coding
+  number-told room numbers h = rw (h .long, h .even, h .corners)
+
+  -- and so are bytes 0 to 19 of the room, where coding accepts
+  code-told : (room numbers : List ℕ) → coding room numbers kind number .said ≡ accepted
+      → take 20 (coding room numbers kind number .room) ≡ codeAt (extremesOf (cornersOf numbers)) number (choose (cornersOf numbers))
+  unfolding coding
+  code-told room numbers e =
+      let c = cover.coded room numbers kind number e in
+      let r = extremesOf (cornersOf numbers) in
+      let f = fieldsOf r number (c .cell) in
+      ap₂ (λ (said : Said) (choice : Choice). take 20 (outcome said (codeAt r number choice) room .room)) e (c .chosen)
+      ∙ take-at (codeOf f) (drop 20 room) 20 (code-twenty f)
+      ∙ ap (codeAt r number) (sym (c .chosen))
+
+  -- Demand 3, from the promises of the two roads
+  pub same-answer : (one numbers other others oneLater otherLater : List ℕ) (quick plain : Coded)
+      → leaves quick oneLater ≡ coding one numbers kind number
+      → leaves plain otherLater ≡ coding other others kind number
+      → Counted one numbers
+      → Counted other others
+      → SameGround (cornersOf numbers) (cornersOf others)
+      → SameAnswer quick oneLater plain otherLater
+  same-answer one numbers other others oneLater otherLater quick plain promise pledge h k g =
+      let said : says quick .number ≡ says plain .number =
+      ap (λ (o : Outcome). o .said .number) promise ∙ number-told one numbers h ∙ number-same g kind number
+      ∙ sym (number-told other others k) ∙ sym (ap (λ (o : Outcome). o .said .number) pledge) in (
+        said,
+        λ zero. written one numbers oneLater quick promise zero ∙ code-same g number
+            ∙ sym (written other others otherLater plain pledge (sym said ∙ zero)),
+      )
+    where
+      written : (room numbers later : List ℕ) (a : Coded) → leaves a later ≡ coding room numbers kind number → says a .number ≡ 0
+          → take 20 later ≡ codeAt (extremesOf (cornersOf numbers)) number (choose (cornersOf numbers))
+      written room numbers later a promise zero =
+          ap (λ (o : Outcome). take 20 (o .room)) promise
+          ∙ code-told room numbers (sym (ap (λ (o : Outcome). o .said) promise) ∙ zero-accepts a zero)
