@@ -4,10 +4,10 @@ use Prim.Native.Nat.{ℕ, zero, suc, _+_, _-_, _*_, _/_, _%_, _≤_, _<_, min}
 use native.Mathlib.Nat.{div-add-mod', mod-lt, mul-le-mul-right, lt-of-mul-lt-mul-right, eq-or-lt-of-le, le-of-suc-le-suc}
 use native.Mathlib.Omega.{arith}
 use mathlib.Core.Path.{_≡_, refl, ap, subst}
-use mathlib.Core.Logic.{_⊎_, inl, inr}
+use mathlib.Core.Logic.{_⊎_, inl, inr, _≢_}
 use mathlib.Core.Bool.{Bool, true, false, cond, _&&_}
 use lib.Dec.{T, leb, eqb, leb→le, eqb→eq}
-use borrow.Author.Tests.{leb-true, leb-false}
+use borrow.Author.Tests.{leb-true, leb-false, eq-eqb, ne-eqb}
 use Rattle.ground.specs.Levels.{sizeOf}
 use Rattle.ground.specs.Sizes.{first, rest}
 use Rattle.ground.specs.Cells.{afresh, startOf, lowSide, highSide}
@@ -204,12 +204,22 @@ module _ (level : ℕ) (coarsest : 9 ≤ level) (finest : level < 27) {a b : ℕ
   whole-half e = record { low = low-half .low; high = omega arith }
 
 -- What whole cells leave before cells start afresh
-abbrev left : ℕ → ℕ
+abbrev pub left : ℕ → ℕ
 left level = afresh level % sizeOf level
 
 -- The least width of a level's cells, 0 for what is no level from 9 to 27: the nominal size, or what whole cells leave
 unfoldable pub narrowest : ℕ → ℕ
 narrowest level = cond (eqb (sizeOf level) 0) 0 (cond (eqb (left level) 0) (sizeOf level) (left level))
+
+-- It is the size where whole cells leave nothing
+pub narrow-size : (level : ℕ) → sizeOf level ≢ 0 → left level ≡ 0 → narrowest level ≡ sizeOf level
+unfolding narrowest
+narrow-size level some none = rw (ne-eqb (sizeOf level) 0 some, eq-eqb (left level) 0 none)
+
+-- and else what they leave
+pub narrow-left : (level : ℕ) → sizeOf level ≢ 0 → left level ≢ 0 → narrowest level ≡ left level
+unfolding narrowest
+narrow-left level some more = rw (ne-eqb (sizeOf level) 0 some, ne-eqb (left level) 0 more)
 
 -- No cell is narrower, cuts included
 pub narrow-wide : (level a : ℕ) → 9 ≤ level → level ≤ 27 → lowSide level a ≡ a → narrowest level ≤ highSide level a - a

@@ -1,7 +1,7 @@
 -- What the searches within this crate ask of their callers, and what they tell of a level. Assumes nothing.
 use Prim.Native.Nat.{ℕ, _+_, _-_, _/_, _%_, _≤_, _<_}
 use mathlib.Core.Path.{_≡_}
-use mathlib.Core.Bool.{Bool, true, _||_}
+use mathlib.Core.Bool.{Bool, true, false, _||_}
 use mathlib.Core.List.{List}
 use lib.Dec.{ltb}
 use Rattle.ground.specs.declared.Lon.{Lon}
@@ -12,6 +12,7 @@ use Rattle.ground.specs.Levels.{lat, lon, latEnd, lonEnd, distance}
 use Rattle.ground.specs.Cells.{IsCell}
 use Rattle.ground.specs.Halves.{Span, narrowest}
 use Rattle.boundary.specs.Boundary.{inside}
+use Rattle.boundary.specs.Missing.{Within}
 use Rattle.unit.specs.declared.Choice.the-variants.{At}
 use Rattle.unit.specs.Chosen.{choose}
 use Rattle.quick.specs.declared.search.Nearby.{Nearby}
@@ -72,6 +73,10 @@ tooWide r level =
 -- and so for each level before one
 abbrev pub UnfitBefore : Rectangle → ℕ → Type 0
 UnfitBefore r level = (n : ℕ) → n < level → 9 ≤ n → tooWide r n ≡ true
+
+-- Ground that does not fit the extents does not lie within them
+abbrev pub Fits : Rectangle → Rectangle → Bool → Type 0
+Fits cell r fits = fits ≡ false → Within cell r → ⊥
 
 -- Where halving starts from a coarser level, all places stand in the room
 abbrev pub Ready : List ℕ → List ℕ → ℕ → ℕ → Type 0

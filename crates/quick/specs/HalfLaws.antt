@@ -109,7 +109,7 @@ module _ (corners : List Point) {level : ℕ} {r : Rectangle} (b : ByLat level 0
   coarse = omega (arith, b .coarsest)
 
   -- and is its ground
-  ground-cell : sidesOf (cellOf level r) ≡ r
+  pub ground-cell : sidesOf (cellOf level r) ≡ r
   unfolding sidesOf
   ground-cell =
       λ i. record { west = r .west; east = record { 0 = sym (lon-span .high) i }; south = r .south; north = record { 0 = sym (lat-span .high) i } }
@@ -138,7 +138,7 @@ module _ (corners : List Point) {level : ℕ} {r : Rectangle} (b : ByLat level 0
           absurd none
 
   -- so that it is that cell
-  only-cell : (d : Cell) → Wanted corners level r d → d ≡ cellOf level r
+  pub only-cell : (d : Cell) → Wanted corners level r d → d ≡ cellOf level r
   unfolding sidesOf
   only-cell d w =
       let west : d .west .0 ≡ r .west .0 =

@@ -31,6 +31,7 @@ use Rattle.unit.specs.Chosen.{Before, choose}
 use Rattle.unit.specs.Choosing.{InRange, Over, chosen-choose, none-choose}
 use Rattle.quick.specs.Asked.{ByLat, Levels, Ground, column, everywhere, tooWide, UnfitBefore, Ready, NoneInside}
 use Rattle.quick.specs.Kept.{gather, Same, southWest, oddAt, Sound, Listed}
+use Rattle.quick.specs.HalfLaws.{ground-cell, only-cell}
 use Rattle.quick.specs.KeptLaws.{gather-same}
 use Rattle.quick.specs.Best.{Wanted, Best, lefter, best-all, best-lat, best-west, best-east}
 
@@ -164,6 +165,12 @@ by-lat-none {level} {cell} coarsest finest g =
       north-end = g .north-end;
       east-end = g .east-end;
     }
+
+-- A cell whose ground does not lie within the extents is not inside
+pub out-none : {corners : List Point} {r : Rectangle} → Over corners r → {level : ℕ} {cell : Rectangle} → ByLat level 0 cell
+    → (Within cell r → ⊥) → Best corners level cell Nowhere
+out-none {corners} {r} o b out d w =
+    out (subst (λ (x : Rectangle). Within x r) (ap sidesOf (only-cell corners b d w) ∙ ground-cell corners b) (in-over o d (w .cell) (w .is)))
 
 -- A cell has room, across and up
 cell-across : (d : Cell) → IsCell d → sidesOf d .west .0 < sidesOf d .east .0

@@ -7,7 +7,7 @@ ghost use Rattle.boundary.specs.Corners.{cornersOf};
 ghost use Rattle.unit.specs.Chosen.{choose};
 ghost use Rattle.unit.specs.Choosing.{InRange, Over};
 ghost use Rattle.quick.specs.Best.{Best};
-ghost use Rattle.quick.specs.Asked.{Levels, Ground, Column, column, everywhere, tooWide, UnfitBefore, Ready, StillListed, NoneInside, Nearly};
+ghost use Rattle.quick.specs.Asked.{Levels, Ground, Column, column, everywhere, tooWide, UnfitBefore, Fits, Ready, StillListed, NoneInside, Nearly};
 use crate::half::Half;
 use crate::half::corner_of;
 use crate::halving::by_lat;
@@ -74,12 +74,40 @@ fn top_of(r: Rectangle, level: u32) -> u32
     top
 }
 
+// Whether a cell's ground lies within the extents, as that of an inside cell does.
+fn fits(cell: Rectangle, r: Rectangle) -> bool
+    ensures { λ f. ⌜ Fits cell r f ⌝ }
+{
+    let cell_west = cell.west;
+    let cell_east = cell.east;
+    let cell_south = cell.south;
+    let cell_north = cell.north;
+    let west = r.west;
+    let east = r.east;
+    let south = r.south;
+    let north = r.north;
+    if cell_west.0 < west.0 {
+        return false;
+    }
+    if east.0 < cell_east.0 {
+        return false;
+    }
+    if cell_south.0 < south.0 {
+        return false;
+    }
+    cell_north.0 <= north.0
+}
+
 // A cell of the level itself, if it is inside.
-fn at_once(numbers: &[u32], cell: Rectangle, level: u32) -> Choice
+fn at_once(numbers: &[u32], r: Rectangle, cell: Rectangle, level: u32) -> Choice
+    requires { ⌜ Over (cornersOf (now numbers)) r ⌝ }
     requires { ⌜ (9 ≤ level) × (level ≤ 27) ⌝ }
     requires { ⌜ Ground level cell ⌝ }
     ensures { λ c. ⌜ Best (cornersOf (now (numbers .entry))) level cell c ⌝ }
 {
+    if !fits(cell, r) {
+        return Choice::Nowhere;
+    }
     if boundary::unmet(numbers, cell) && boundary::odd_count(numbers, ground::centre(cell)) {
         let west = cell.west;
         let south = cell.south;
@@ -89,15 +117,23 @@ fn at_once(numbers: &[u32], cell: Rectangle, level: u32) -> Choice
 }
 
 // The first of a level in one cell of it, or of a coarser level.
-fn in_cell(numbers: &[u32], room: &mut [u16], cell: Rectangle, level: u32, top: u32) -> Choice
+fn in_cell(
+    numbers: &[u32],
+    room: &mut [u16],
+    r: Rectangle,
+    cell: Rectangle,
+    level: u32,
+    top: u32,
+) -> Choice
     requires { ⌜ Ready (now numbers) (now room) level top ⌝ }
+    requires { ⌜ Over (cornersOf (now numbers)) r ⌝ }
     requires { ⌜ Levels level top ⌝ }
     requires { ⌜ Ground top cell ⌝ }
     ensures { λ c. ⌜ Best (cornersOf (now (numbers .entry))) level cell c ⌝ }
     ensures { λ _. ⌜ StillListed (now (numbers .entry)) (now (room .entry)) (now (room .exit)) ⌝ }
 {
     if top == level {
-        return at_once(numbers, cell, level);
+        return at_once(numbers, r, cell, level);
     }
     let half = Half {
         ground: cell,
@@ -137,7 +173,7 @@ fn in_column(
             south: Lat(south),
             north: Lat(north),
         };
-        found = lefter(found, in_cell(numbers, room, cell, level, top));
+        found = lefter(found, in_cell(numbers, room, r, cell, level, top));
         south = north;
     }
     found
@@ -165,17 +201,13 @@ fn in_level(numbers: &[u32], room: &mut [u16], r: Rectangle, level: u32, top: u3
     Choice::Nowhere
 }
 
+// Up to so many cells of a near level lie over an extent in a row.
+const NEAR: u32 = 16;
+
 // What the near levels tell: the chosen cell, or the level to go on with.
 pub enum Nearby {
     Found(Cell),
     Next(u32),
-}
-
-// How many cells in a row are near: more where there are few corners, since each cell costs them.
-fn near_cells(numbers: &[u32]) -> u32
-    ensures { λ n. ⌜ 0 < n ⌝ }
-{
-    if numbers.len() / 2 <= 256 { 16 } else { 4 }
 }
 
 // The first of a level, cell by cell: nothing is kept.
@@ -194,10 +226,9 @@ pub(crate) fn near(numbers: &[u32], r: Rectangle) -> Nearby
     requires { ⌜ InRange (cornersOf (now numbers)) ⌝ }
     ensures { λ n. ⌜ Nearly (cornersOf (now (numbers .entry))) n ⌝ }
 {
-    let cells = near_cells(numbers);
     let mut level = first_level(r);
     while level < 28 {
-        if short(r, level, cells) {
+        if short(r, level, NEAR) {
             return Nearby::Next(level);
         }
         let found = near_level(numbers, r, level);

@@ -1,13 +1,23 @@
 -- `ground::cells::narrowest` meets its contract: what whole cells leave, or the size where they leave nothing. Assumes nothing.
 use Prim.Native.Nat.{ℕ, _%_}
 use mathlib.Core.Path.{_≡_, ap₂, sym, _∙_}
+use mathlib.Core.Logic.{_≢_}
 use borrow.Author.Needs.{needs}
-use borrow.Author.Tests.{eq-eqb, ne-eqb}
+use borrow.Author.Tests.{eq-eqb}
 use Rattle.ground.specs.Levels.{sizeOf}
 use Rattle.ground.specs.Cells.{afresh}
-use Rattle.ground.specs.Halves.{narrowest}
+use Rattle.ground.specs.Halves.{narrowest, narrow-size, narrow-left}
 use Rattle.ground.proofs.cells.narrowest.Statement.{statement}
 use Rattle.ground.proofs.cells.narrowest.Tie as tie
+
+-- the size is one to divide by
+some : (c : tie.Else1) → sizeOf (c .before .before .args .level) ≢ 0
+some c e = c .if1 .left (c .before .size .ensures ∙ e)
+
+-- and what whole cells leave is what the function says
+rest : (c : tie.After-afresh)
+    → afresh (c .before .before .before .args .level) % sizeOf (c .before .before .before .args .level) ≡ c .afresh .result % c .before .before .size .result
+rest c = ap₂ (λ (w n : ℕ). w % n) (sym (c .afresh .ensures .0)) (sym (c .before .before .size .ensures))
 
 size-requires : tie.Need-size-requires
 size-requires c κs = search needs
@@ -23,29 +33,15 @@ rem-left : tie.Need-rem-left
 rem-left c = search needs
 
 returns-2 : tie.Need-returns-2
-unfolding narrowest
 returns-2 c =
     let sized = c .before .before .before in
-    let level = sized .before .args .level in
-    let rest = ap₂ (λ (w n : ℕ). w % n) (sym (c .before .afresh .ensures .0)) (sym (sized .size .ensures)) in
-    rw (
-      ne-eqb (sizeOf level) 0 (λ e. c .before .before .if1 .left (sized .size .ensures ∙ e)),
-      eq-eqb (afresh level % sizeOf level) 0 (rest ∙ c .if2 .taken),
-      sized .size .ensures,
-    )
+    sized .size .ensures ∙ sym (narrow-size (sized .before .args .level) (some (c .before .before)) (rest (c .before) ∙ c .if2 .taken))
 
 returns-3 : tie.Need-returns-3
-unfolding narrowest
 returns-3 c =
     let sized = c .before .before .before in
-    let level = sized .before .args .level in
-    let rest = ap₂ (λ (w n : ℕ). w % n) (sym (c .before .afresh .ensures .0)) (sym (sized .size .ensures)) in
-    rw (
-      ne-eqb (sizeOf level) 0 (λ e. c .before .before .if1 .left (sized .size .ensures ∙ e)),
-      ne-eqb (afresh level % sizeOf level) 0 (λ e. c .if2 .left (sym rest ∙ e)),
-      sized .size .ensures,
-      c .before .afresh .ensures .0,
-    )
+    sym (rest (c .before))
+    ∙ sym (narrow-left (sized .before .args .level) (some (c .before .before)) (λ e. c .if2 .left (sym (rest (c .before)) ∙ e)))
 
 pub narrowest-spec : {M : Type 1} → statement M
 narrowest-spec =

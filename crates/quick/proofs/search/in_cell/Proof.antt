@@ -15,14 +15,17 @@ use Rattle.quick.proofs.search.in_cell.Tie as tie
 coarser : (c : tie.Else1) → c .before .before .before .args .top < c .before .before .before .args .level
 coarser c =
     let start = c .before .before .before in
-    omega (arith, start .pre .1 .0 .below, c .if1 .left)
+    omega (arith, start .pre .1 .1 .0 .below, c .if1 .left)
 
 at-once-requires : tie.Need-at-once-requires
 at-once-requires c κs =
     let start = c .before .before .before in
-    let levels = start .pre .1 .0 in (
-      (omega (arith, levels .coarsest, levels .below), levels .finest),
-      subst (λ (n : ℕ). Ground n (start .args .cell)) (c .if1 .taken) (start .pre .1 .1),
+    let levels = start .pre .1 .1 .0 in (
+      start .pre .1 .0,
+      (
+        (omega (arith, levels .coarsest, levels .below), levels .finest),
+        subst (λ (n : ℕ). Ground n (start .args .cell)) (c .if1 .taken) (start .pre .1 .1 .1),
+      ),
     )
 
 returns : tie.Need-returns
@@ -44,8 +47,8 @@ by-lat-requires : tie.Need-by-lat-requires
 by-lat-requires c κs =
     let other = c .before .before .before in
     let start = other .before .before .before in
-    let levels = start .pre .1 .0 in
-    let ground = start .pre .1 .1 in (
+    let levels = start .pre .1 .1 .0 in
+    let ground = start .pre .1 .1 .1 in (
       sound-all (start .pre .0 (coarser other)) (levels .coarsest) (omega (arith, levels .below, levels .finest)) ground
           (c .before .odd-count .ensures ∙ ap (oddAt (start .args .numbers .now)) (c .before .before .corner-of .ensures)),
       by-lat-all levels ground,

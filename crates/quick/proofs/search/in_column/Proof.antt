@@ -13,11 +13,11 @@ use Rattle.quick.proofs.search.in_column.Statement.{statement}
 use Rattle.quick.proofs.search.in_column.Tie as tie
 
 abbrev Inv-loop : tie.InvT-loop
-Inv-loop numbers room₀ level top west east to found₀ south₀ room found south =
+Inv-loop numbers room₀ r level top west east to found₀ south₀ room found south =
     StillListed numbers room₀ room × (length room ≡ length room₀) × UpTo (cornersOf numbers) level top west east south₀ south found
 
 abbrev μ-loop : tie.MeasureT-loop
-μ-loop numbers room₀ level top west east to found₀ south₀ room found south = to .0 - south
+μ-loop numbers room₀ r level top west east to found₀ south₀ room found south = to .0 - south
 
 -- the next south side is within the range
 next : (c : tie.After-high-side Inv-loop μ-loop) → c .high-side .result ≤ latEnd
@@ -47,13 +47,16 @@ in-cell-requires c κs =
     let column = start .pre .1 .1 .1 in (
       λ less. loop .loop .inv .0 (start .pre .0 less),
       (
-        start .pre .1 .1 .0,
-        record {
-          lat = record { low = loop .loop .inv .2 .is; high = c .before .high-side .ensures };
-          lon = column .lon;
-          north-end = next (c .before);
-          east-end = column .east-end;
-        },
+        start .pre .1 .0,
+        (
+          start .pre .1 .1 .0,
+          record {
+            lat = record { low = loop .loop .inv .2 .is; high = c .before .high-side .ensures };
+            lon = column .lon;
+            north-end = next (c .before);
+            east-end = column .east-end;
+          },
+        ),
       ),
     )
 

@@ -9,22 +9,19 @@ use Rattle.quick.proofs.search.near.Statement.{statement}
 use Rattle.quick.proofs.search.near.Tie as tie
 
 abbrev Inv-loop : tie.InvT-loop
-Inv-loop numbers r cells level₀ level = NoneInside (cornersOf numbers) level
+Inv-loop numbers r level₀ level = NoneInside (cornersOf numbers) level
 
 abbrev μ-loop : tie.MeasureT-loop
-μ-loop numbers r cells level₀ level = 28 - level
-
-near-cells-requires : tie.Need-near-cells-requires Inv-loop μ-loop
-near-cells-requires c κs = search needs
+μ-loop numbers r level₀ level = 28 - level
 
 first-level-requires : tie.Need-first-level-requires Inv-loop μ-loop
 first-level-requires c κs = search needs
 
 loop-holds : tie.Need-loop-holds Inv-loop μ-loop
-loop-holds c = levels-begin (c .before .before .before .pre .0) (c .first-level .ensures .0) (c .first-level .ensures .1)
+loop-holds c = levels-begin (c .before .before .pre .0) (c .first-level .ensures .0) (c .first-level .ensures .1)
 
 short-requires : tie.Need-short-requires Inv-loop μ-loop
-short-requires c κs = c .before .before .before .near-cells .ensures
+short-requires c κs = search needs
 
 returns : tie.Need-returns Inv-loop μ-loop
 returns c = c .before .before .before .loop .inv
@@ -33,7 +30,7 @@ near-level-requires : tie.Need-near-level-requires Inv-loop μ-loop
 near-level-requires c κs =
     let test = c .before .before in
     let loop = test .before in (
-      loop .before .before .before .before .pre .0,
+      loop .before .before .before .pre .0,
       record { coarsest = loop .loop .inv .coarsest; below = omega arith; finest = omega (arith, test .loop-test .taken) },
     )
 
@@ -44,7 +41,7 @@ returns-2 : tie.Need-returns-2 Inv-loop μ-loop
 returns-2 c =
     let level = c .before .before .before in
     let loop = level .before .before .before .before in
-    levels-found (loop .loop .inv) (loop .before .before .before .before .pre .1) (level .near-level .ensures) (c .before .found .given .1)
+    levels-found (loop .loop .inv) (loop .before .before .before .pre .1) (level .near-level .ensures) (c .before .found .given .1)
 
 enum-told : tie.Need-enum-told Inv-loop μ-loop
 enum-told c = search needs
@@ -70,7 +67,6 @@ near-spec =
     (tie.spec
     Inv-loop
     μ-loop
-    near-cells-requires
     first-level-requires
     loop-holds
     short-requires
