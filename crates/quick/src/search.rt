@@ -1,5 +1,6 @@
-// The search for the chosen cell: the levels in turn whose cells can fit the extents, and for each of
-// them the halves of the few cells of a coarser level that lie over the extents.
+// The search for the chosen cell: the levels in turn whose cells can fit the extents. Near levels, of
+// which few cells lie over the extents, go cell by cell; the others by halving the cells of a coarser
+// level that lie over the extents.
 ghost use Prim.Native.Nat.{_/_, _≤_, _<_};
 ghost use mathlib.Core.Path.{_≡_};
 ghost use lib.ListN.{length};
@@ -144,7 +145,8 @@ fn in_cell(
     by_lat(numbers, room, half, level, 2 * (level - top))
 }
 
-// The first of a level between two sides of a coarser level: that level's south sides in turn.
+// The first of a level between two sides of it, or of a coarser level: that level's south sides in
+// turn.
 fn in_column(
     numbers: &[u32],
     room: &mut [u16],
@@ -179,7 +181,7 @@ fn in_column(
     found
 }
 
-// The first of a level: a coarser level's west sides in turn.
+// The first of a level: its own west sides, or a coarser level's, in turn.
 fn in_level(numbers: &[u32], room: &mut [u16], r: Rectangle, level: u32, top: u32) -> Choice
     requires { ⌜ Ready (now numbers) (now room) level top ⌝ }
     requires { ⌜ Over (cornersOf (now numbers)) r ⌝ }

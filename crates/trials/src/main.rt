@@ -1,10 +1,11 @@
-// Lets reading, writing, the road and the boundary be tried from outside: a request a line on standard input,
+// Lets reading, writing, both roads and the boundary be tried from outside: a request a line on standard input,
 // an answer a line on standard output. A line that is no request is answered by `?`, and a question
 // by `1` for yes, `0` for no.
 //
 //     write ROOM LAT LON SCALE E W S N NUMBER     answers NUMBER PLACE and the room's bytes
 //     read TEXT                                   answers NUMBER PLACE, the fields and the sides
 //     plain ROOM KIND NUMBER COORDINATE..         answers NUMBER PLACE and the room's bytes
+//     quick ROOM KIND NUMBER COORDINATE..         likewise
 //     meets ALAT ALON BLAT BLON WEST EAST SOUTH NORTH
 //                                                 whether the edge from A to B meets the rectangle
 //     odd LAT LON COORDINATE..                    whether the point has an odd count
