@@ -12,7 +12,6 @@ use Rattle.ground.specs.Cells.{lowSide, sidesOf, IsCell}
 use Rattle.ground.specs.CellTest.{isCell, is-cell}
 use Rattle.ground.specs.Sides.{side-end}
 use Rattle.boundary.specs.Boundary.{inside}
-use Rattle.unit.specs.declared.Choice.{Choice}
 use Rattle.unit.specs.declared.Choice.the-variants.{At, Nowhere}
 use Rattle.unit.specs.Choosing.{Over}
 use Rattle.unit.specs.Chosen.{sidesOver, firstAmong, trySouth, tryWest, tryLevel}

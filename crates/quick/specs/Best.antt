@@ -1,6 +1,6 @@
 -- What a search of one level gives for a rectangle of ground: the leftmost, then lowest of the wanted cells in it (document 01, "What the
 -- work covers" and "The cell inside"), and the laws by which the answers for two parts make that for the whole. Assumes nothing.
-use Prim.Native.Nat.{ℕ, _+_, _≤_, _<_}
+use Prim.Native.Nat.{ℕ, _≤_}
 use native.Mathlib.Omega.{arith}
 use mathlib.Core.Path.{_≡_, refl, sym, ap, subst, _∙_}
 use mathlib.Core.Logic.{_⊎_, inl, inr}
@@ -18,8 +18,8 @@ use Rattle.ground.specs.CellTest.{low-below-high}
 use Rattle.ground.specs.Halves.{split}
 use Rattle.boundary.specs.Boundary.{edgesOf, pointInside, unmet, inside}
 use Rattle.boundary.specs.Missing.{Within, both}
-use Rattle.boundary.specs.Parity.{Lies, Room, same-inside}
-use Rattle.boundary.specs.Inner.{centre-lies, lies-within, inside-centre}
+use Rattle.boundary.specs.Parity.{Room, same-inside}
+use Rattle.boundary.specs.Inner.{centre-lies, lies-within}
 use Rattle.unit.specs.declared.Choice.{Choice}
 use Rattle.unit.specs.declared.Choice.the-variants.{At, Nowhere}
 use Rattle.unit.specs.Chosen.{Lefter, orElse}

@@ -1,12 +1,11 @@
 -- The laws of a half: its parts, the count at its centre, the answer for a half that is a cell, and the halves that follow. Assumes nothing.
-use Prim.Native.Nat.{ℕ, _+_, _-_, _/_, _%_, _≤_, _<_}
+use Prim.Native.Nat.{ℕ, _+_, _-_, _/_, _≤_, _<_}
 use native.Mathlib.Nat.{eq-or-lt-of-le}
 use native.Mathlib.Omega.{arith}
 use mathlib.Core.Path.{_≡_, refl, sym, ap, subst, _∙_}
 use mathlib.Core.Logic.{_⊎_, inl, inr}
-use mathlib.Core.Bool.{Bool, true, false, cond, not, _&&_, and-true, and-false, true≢false}
+use mathlib.Core.Bool.{Bool, true, false, not, _&&_, true≢false}
 use mathlib.Core.List.{List}
-use lib.ListN.{length, getD}
 use Rattle.ground.specs.declared.Lat.{Lat}
 use Rattle.ground.specs.declared.Lon.{Lon}
 use Rattle.ground.specs.declared.Point.{Point}
@@ -22,11 +21,10 @@ use Rattle.boundary.specs.Corners.{cornersOf}
 use Rattle.boundary.specs.Missing.{Within}
 use Rattle.boundary.specs.Parity.{Lies, same-inside}
 use Rattle.boundary.specs.Inner.{centre-lies}
-use Rattle.unit.specs.declared.Choice.{Choice}
 use Rattle.unit.specs.declared.Choice.the-variants.{At, Nowhere}
 use Rattle.unit.specs.Chosen.{Lefter}
 use Rattle.quick.specs.declared.half.Half.{Half}
-use Rattle.quick.specs.Kept.{Same, southWest, oddAt, Sound, Part}
+use Rattle.quick.specs.Kept.{southWest, Sound, Part}
 use Rattle.quick.specs.Best.{Wanted, Best, southOf, northOf, westOf, eastOf, passesOver}
 use Rattle.quick.specs.Asked.{ByLat, ByLon}
 

@@ -1,14 +1,14 @@
 -- The laws of the search: levels that are too wide, the room's listed edges, and the answers for the ground of a column, of a level and of
 -- all levels, as the loops carry them on. Assumes nothing.
-use Prim.Native.Nat.{ℕ, zero, suc, _+_, _-_, _*_, _/_, _≤_, _<_}
+use Prim.Native.Nat.{ℕ, _+_, _-_, _*_, _/_, _≤_, _<_}
 use native.Mathlib.Nat.{eq-or-lt-of-le}
 use native.Mathlib.Omega.{arith}
-use mathlib.Core.Path.{_≡_, refl, sym, ap, ap₂, subst, _∙_}
+use mathlib.Core.Path.{_≡_, refl, sym, ap, subst, _∙_}
 use mathlib.Core.Logic.{_⊎_, inl, inr}
 use mathlib.Core.Bool.{Bool, true, false, _||_}
 use mathlib.Core.List.{List, [], _∷_, map}
 use lib.Dec.{T, ltb}
-use lib.ListN.{length, getD}
+use lib.ListN.{length}
 use borrow.Author.Tests.{ltb-true}
 use Rattle.ground.specs.declared.Lon.{Lon}
 use Rattle.ground.specs.declared.Point.{Point}
@@ -29,7 +29,7 @@ use Rattle.unit.specs.Extents.{lats, lons, extremesOf}
 use Rattle.unit.specs.InExtents.{least-each, greatest-each, in-extents}
 use Rattle.unit.specs.Chosen.{Before, choose}
 use Rattle.unit.specs.Choosing.{InRange, Over, chosen-choose, none-choose}
-use Rattle.quick.specs.Asked.{ByLat, Levels, Ground, column, everywhere, tooWide, UnfitBefore, Ready, NoneInside}
+use Rattle.quick.specs.Asked.{ByLat, Levels, Ground, column, everywhere, tooWide, UnfitBefore, NoneInside}
 use Rattle.quick.specs.Kept.{gather, Same, southWest, oddAt, Sound, Listed}
 use Rattle.quick.specs.HalfLaws.{ground-cell, only-cell}
 use Rattle.quick.specs.KeptLaws.{gather-same}

@@ -1,8 +1,6 @@
 -- `plain::code` meets its contract: the frame around the chosen cell. Assumes nothing.
-use mathlib.Core.Path.{_≡_, sym, _∙_}
+use mathlib.Core.Path.{sym, _∙_}
 use borrow.Author.Needs.{needs}
-use Rattle.boundary.specs.Corners.{cornersOf}
-use Rattle.unit.specs.Frame.{says}
 use Rattle.unit.specs.Framing.{road-refused, road-range, road-ends}
 use Rattle.unit.specs.Choosing.{over-range}
 use Rattle.plain.proofs.code.Statement.{statement}

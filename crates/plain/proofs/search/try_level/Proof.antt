@@ -1,7 +1,7 @@
 -- `plain::search::try_level` meets its contract: the west sides from `west` on are still to be tried. Assumes nothing.
-use Prim.Native.Nat.{ℕ, _-_, _≤_}
+use Prim.Native.Nat.{_-_, _≤_}
 use native.Mathlib.Omega.{arith}
-use mathlib.Core.Path.{_≡_, sym, subst, _∙_}
+use mathlib.Core.Path.{sym, subst, _∙_}
 use borrow.Author.Needs.{needs}
 use Rattle.ground.specs.Levels.{lonEnd}
 use Rattle.ground.specs.Cells.{highSide}

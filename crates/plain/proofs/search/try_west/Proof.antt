@@ -1,16 +1,13 @@
 -- `plain::search::try_west` meets its contract: the south sides from `south` on are still to be tried. Assumes nothing.
-use Prim.Native.Nat.{ℕ, _-_, _<_, _≤_}
+use Prim.Native.Nat.{ℕ, _-_, _≤_}
 use native.Mathlib.Omega.{arith}
-use mathlib.Core.Path.{_≡_, sym, subst, _∙_, ap}
-use mathlib.Core.List.{List}
+use mathlib.Core.Path.{_≡_, sym, subst}
 use borrow.Author.Needs.{needs}
-use Rattle.ground.specs.declared.Point.{Point}
 use Rattle.ground.specs.Levels.{latEnd}
-use Rattle.ground.specs.Cells.{lowSide, highSide}
+use Rattle.ground.specs.Cells.{highSide}
 use Rattle.ground.specs.CellTest.{low-below-high}
 use Rattle.ground.specs.Sides.{side-end}
 use Rattle.boundary.specs.Corners.{cornersOf}
-use Rattle.unit.specs.Extents.{extremesOf}
 use Rattle.unit.specs.Chosen.{trySouth, tryWest}
 use Rattle.plain.specs.Turns.{SidesLeft, sides-found, sides-again, sides-end}
 use Rattle.plain.specs.Trying.{south-tried, souths-begin}

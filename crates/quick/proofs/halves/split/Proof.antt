@@ -1,7 +1,7 @@
 -- `quick::halves::split` meets its contract: the law of the low half. Assumes nothing.
-use Prim.Native.Nat.{ℕ, _+_, _-_, _≤_, min}
+use Prim.Native.Nat.{ℕ, _+_, _-_, min}
 use native.Mathlib.Omega.{arith}
-use mathlib.Core.Path.{_≡_, sym, subst, ap, _∙_}
+use mathlib.Core.Path.{_≡_, sym, ap, _∙_}
 use Rattle.ground.specs.Levels.{sizeOf}
 use Rattle.ground.specs.Sizes.{size-most}
 use Rattle.ground.specs.Cells.{highSide}

@@ -1,6 +1,5 @@
 -- `quick::search::fits` meets its contract: a side that sticks out is named. Assumes nothing.
 use native.Mathlib.Omega.{arith}
-use borrow.Author.Needs.{needs}
 use borrow.Author.Tests.{leb-false}
 use Rattle.quick.proofs.search.fits.Statement.{statement}
 use Rattle.quick.proofs.search.fits.Tie as tie

@@ -2,9 +2,8 @@
 -- their places. Assumes nothing.
 use Prim.Native.Nat.{ℕ, _<_}
 use native.Mathlib.Omega.{arith}
-use mathlib.Core.Path.{_≡_, ap, subst, sym, _∙_}
-use Rattle.quick.specs.Kept.{oddAt, Listed}
-use Rattle.quick.specs.Best.{Best}
+use mathlib.Core.Path.{ap, subst, _∙_}
+use Rattle.quick.specs.Kept.{oddAt}
 use Rattle.quick.specs.Asked.{Ground}
 use Rattle.quick.specs.SearchLaws.{listed-same, sound-all, by-lat-all}
 use borrow.Author.Needs.{needs}
