@@ -1,5 +1,5 @@
--- What the plain road tries: a cell of its search is a cell of levels 9 to 27 within the range, so that the test of the boundary is what document 01
--- says of it ("The cell inside"). Assumes nothing.
+-- What the plain road tries: a cell of levels 9 to 27 within the range, so that the test of the boundary is what document 01 says of it
+-- ("The cell inside"). Assumes nothing.
 use Prim.Native.Nat.{ℕ, _≤_, _<_}
 use mathlib.Core.Path.{_≡_, sym, ap, subst, _∙_}
 use mathlib.Core.Bool.{Bool, cond, _&&_}

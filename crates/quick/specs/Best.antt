@@ -22,7 +22,7 @@ use Rattle.boundary.specs.Parity.{Room, same-inside}
 use Rattle.boundary.specs.Inner.{centre-lies, lies-within}
 use Rattle.unit.specs.declared.Choice.{Choice}
 use Rattle.unit.specs.declared.Choice.the-variants.{At, Nowhere}
-use Rattle.unit.specs.Chosen.{Lefter, orElse}
+use Rattle.unit.specs.Chosen.{Lefter}
 
 -- A wanted cell in a rectangle of ground: of a level, inside, and within the ground
 pub record Wanted (corners : List Point) (level : ℕ) (r : Rectangle) (c : Cell) : Type 0 where
@@ -185,36 +185,27 @@ module _ (corners : List Point) (level : ℕ) (coarsest : 9 ≤ level) (finest :
           by x (inr (h, k)) (inr w) =
               omega (arith, cell-room c (s .0 .cell) .up, s .0 .lies .north, w .lies .south)
 
-  -- and the answer west of a longitude, or else the one east of it
-  best-lon : (at : Lon) → lowSide level (at .0) ≡ at .0 → r .west .0 ≤ at .0 → at .0 ≤ r .east .0 → (a b : Choice)
-      → Best corners level (westOf r at) a → (a ≡ Nowhere → Best corners level (eastOf r at) b)
-      → Best corners level r (orElse a (λ _. b))
+  -- A cell that is found west of a longitude is the answer for the whole
+  pub best-west : (at : Lon) → lowSide level (at .0) ≡ at .0 → r .west .0 ≤ at .0 → at .0 ≤ r .east .0 → {c : Cell}
+      → Best corners level (westOf r at) (At c) → Best corners level r (At c)
   unfolding sidesOf
-  best-lon at is low high (At c) b s n = (wanted-within (omega arith) (s .0), λ d w l. by d l (lon-parts at is d w))
+  best-west at is low high {c} s = (wanted-within (omega arith) (s .0), λ d w l. by d l (lon-parts at is d w))
     where
       by : (d : Cell) → Lefter d c → (Wanted corners level (westOf r at) d) ⊎ (Wanted corners level (eastOf r at) d) → ⊥
       by d l (inl w) = s .1 d w l
       by d (inl h) (inr w) = omega (arith, cell-room c (s .0 .cell) .across, s .0 .lies .east, w .lies .west)
       by d (inr (h, k)) (inr w) = omega (arith, cell-room c (s .0 .cell) .across, s .0 .lies .east, w .lies .west)
-  best-lon at is low high Nowhere (At c) s n =
-      (wanted-within (omega arith) (n refl .0), λ d w l. by d l (lon-parts at is d w))
-    where
-      by : (d : Cell) → Lefter d c → (Wanted corners level (westOf r at) d) ⊎ (Wanted corners level (eastOf r at) d) → ⊥
-      by d l (inl w) = s d w
-      by d l (inr w) = n refl .1 d w l
-  best-lon at is low high Nowhere Nowhere s n = λ d w. by d (lon-parts at is d w)
-    where
-      by : (d : Cell) → (Wanted corners level (westOf r at) d) ⊎ (Wanted corners level (eastOf r at) d) → ⊥
-      by d (inl w) = s d w
-      by d (inr w) = n refl d w
-
-  -- A cell that is found west of a longitude is the answer for the whole
-  pub best-west : (at : Lon) → lowSide level (at .0) ≡ at .0 → r .west .0 ≤ at .0 → at .0 ≤ r .east .0 → {c : Cell}
-      → Best corners level (westOf r at) (At c) → Best corners level r (At c)
-  best-west at is low high {c} w =
-      best-lon at is low high (At c) Nowhere w (λ e. let none : _≡_ {A = ℕ} 0 1 = cc in absurd (omega arith))
 
   -- and where there is none, the answer east of it is
   pub best-east : (at : Lon) → lowSide level (at .0) ≡ at .0 → r .west .0 ≤ at .0 → at .0 ≤ r .east .0 → (b : Choice)
       → Best corners level (westOf r at) Nowhere → Best corners level (eastOf r at) b → Best corners level r b
-  best-east at is low high b w e = best-lon at is low high Nowhere b w (λ _. e)
+  best-east at is low high (At c) s n = (wanted-within (omega arith) (n .0), λ d w l. by d l (lon-parts at is d w))
+    where
+      by : (d : Cell) → Lefter d c → (Wanted corners level (westOf r at) d) ⊎ (Wanted corners level (eastOf r at) d) → ⊥
+      by d l (inl w) = s d w
+      by d l (inr w) = n .1 d w l
+  best-east at is low high Nowhere s n = λ d w. by d (lon-parts at is d w)
+    where
+      by : (d : Cell) → (Wanted corners level (westOf r at) d) ⊎ (Wanted corners level (eastOf r at) d) → ⊥
+      by d (inl w) = s d w
+      by d (inr w) = n d w

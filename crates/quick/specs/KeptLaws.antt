@@ -290,6 +290,11 @@ sound-same {numbers} {room} {later} {h} s same long =
       odd = s .odd;
     }
 
--- Entries that stay the same, and then again
-pub same-then : (room later latest : List ℕ) {to last : ℕ} → to ≤ last → Same to room later → Same last later latest → Same to room latest
-same-then room later latest most first then j h = then j (omega arith) ∙ first j h
+-- Entries that stay the same up to a place, and then up to a later one
+pub same-then : (room later latest : List ℕ) {to last : ℕ} → (to ≤ last) × Same to room later → Same last later latest → Same to room latest
+same-then room later latest first then j h = then j (omega (arith, first .0)) ∙ first .1 j h
+
+-- and so where they stayed the same before
+pub then-same : (room earlier later latest : List ℕ) {to last : ℕ} → Same to room earlier → (to ≤ last) × Same to earlier later
+    → Same last later latest → Same to room latest
+then-same room earlier later latest before first then j h = same-then earlier later latest first then j h ∙ before j h

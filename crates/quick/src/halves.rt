@@ -1,18 +1,13 @@
-// The two halves of a half, by latitude and by longitude, and where they meet: a degree or a minute is
+// The halves of a half, by latitude and by longitude, and where they meet: a degree or a minute is
 // split at 32, and cut ground unevenly or not at all.
 ghost use Prim.Native.Nat.{_+_, _-_, _/_, _≤_, _<_};
 ghost use mathlib.Core.Path.{_≡_};
 ghost use Rattle.ground.specs.Cells.{highSide};
 ghost use Rattle.ground.specs.Halves.{Span};
-ghost use Rattle.quick.specs.Kept.{Same, Sound};
-ghost use Rattle.quick.specs.Best.{southOf, northOf, westOf, eastOf};
+ghost use Rattle.quick.specs.Kept.{Same, southWest, Sound, Part};
 ghost use Rattle.quick.specs.Asked.{ByLat, ByLon};
 use crate::half::Half;
 use crate::half::corner_of;
-use crate::half::east_of;
-use crate::half::north_of;
-use crate::half::south_of;
-use crate::half::west_of;
 use crate::kept::odd_at;
 use crate::kept::part_of;
 use ground::Lat;
@@ -51,46 +46,24 @@ pub(crate) fn lon_split(r: Rectangle, level: u32, left: u32) -> Lon
     Lon(split(level - left / 2, west.0, east.0))
 }
 
-// The half south of a latitude: it has the whole's south-west corner.
-pub(crate) fn south_half(numbers: &[u32], room: &mut [u16], half: Half, at: Lat) -> Half
+// A part of a half with its south-west corner: the count there is the whole's.
+pub(crate) fn same_corner(numbers: &[u32], room: &mut [u16], half: Half, part: Rectangle) -> Half
     requires { ⌜ Sound (now numbers) (now room) half ⌝ }
-    requires { ⌜ (half .ground .south .0 < at .0) × (at .0 < half .ground .north .0) ⌝ }
-    ensures { λ h. ⌜ (h .ground ≡ southOf (half .ground) at) × Sound (now (numbers .entry)) (now (room .exit)) h ⌝ }
+    requires { ⌜ Part half part ⌝ }
+    requires { ⌜ southWest part ≡ southWest (half .ground) ⌝ }
+    ensures { λ h. ⌜ (h .ground ≡ part) × Sound (now (numbers .entry)) (now (room .exit)) h ⌝ }
     ensures { λ h. ⌜ (half .to ≤ h .to) × Same (half .to) (now (room .entry)) (now (room .exit)) ⌝ }
 {
-    part_of(numbers, room, half, south_of(half.ground, at), half.odd)
+    part_of(numbers, room, half, part, half.odd)
 }
 
-// The half north of it.
-pub(crate) fn north_half(numbers: &[u32], room: &mut [u16], half: Half, at: Lat) -> Half
+// A part with a corner of its own: the count there is turned by the kept edges alone.
+pub(crate) fn other_corner(numbers: &[u32], room: &mut [u16], half: Half, part: Rectangle) -> Half
     requires { ⌜ Sound (now numbers) (now room) half ⌝ }
-    requires { ⌜ (half .ground .south .0 < at .0) × (at .0 < half .ground .north .0) ⌝ }
-    ensures { λ h. ⌜ (h .ground ≡ northOf (half .ground) at) × Sound (now (numbers .entry)) (now (room .exit)) h ⌝ }
+    requires { ⌜ Part half part ⌝ }
+    ensures { λ h. ⌜ (h .ground ≡ part) × Sound (now (numbers .entry)) (now (room .exit)) h ⌝ }
     ensures { λ h. ⌜ (half .to ≤ h .to) × Same (half .to) (now (room .entry)) (now (room .exit)) ⌝ }
 {
-    let part = north_of(half.ground, at);
-    let odd = odd_at(numbers, room, half, corner_of(part));
-    part_of(numbers, room, half, part, odd)
-}
-
-// The half west of a longitude: it has the whole's south-west corner.
-pub(crate) fn west_half(numbers: &[u32], room: &mut [u16], half: Half, at: Lon) -> Half
-    requires { ⌜ Sound (now numbers) (now room) half ⌝ }
-    requires { ⌜ (half .ground .west .0 < at .0) × (at .0 < half .ground .east .0) ⌝ }
-    ensures { λ h. ⌜ (h .ground ≡ westOf (half .ground) at) × Sound (now (numbers .entry)) (now (room .exit)) h ⌝ }
-    ensures { λ h. ⌜ (half .to ≤ h .to) × Same (half .to) (now (room .entry)) (now (room .exit)) ⌝ }
-{
-    part_of(numbers, room, half, west_of(half.ground, at), half.odd)
-}
-
-// The half east of it.
-pub(crate) fn east_half(numbers: &[u32], room: &mut [u16], half: Half, at: Lon) -> Half
-    requires { ⌜ Sound (now numbers) (now room) half ⌝ }
-    requires { ⌜ (half .ground .west .0 < at .0) × (at .0 < half .ground .east .0) ⌝ }
-    ensures { λ h. ⌜ (h .ground ≡ eastOf (half .ground) at) × Sound (now (numbers .entry)) (now (room .exit)) h ⌝ }
-    ensures { λ h. ⌜ (half .to ≤ h .to) × Same (half .to) (now (room .entry)) (now (room .exit)) ⌝ }
-{
-    let part = east_of(half.ground, at);
     let odd = odd_at(numbers, room, half, corner_of(part));
     part_of(numbers, room, half, part, odd)
 }

@@ -6,12 +6,14 @@ ghost use Rattle.quick.specs.Kept.{Same, Sound};
 ghost use Rattle.quick.specs.Best.{Best, lefter as Best·lefter, passesOver};
 ghost use Rattle.quick.specs.Asked.{ByLat, ByLon};
 use crate::half::Half;
-use crate::halves::east_half;
+use crate::half::east_of;
+use crate::half::north_of;
+use crate::half::south_of;
+use crate::half::west_of;
 use crate::halves::lat_split;
 use crate::halves::lon_split;
-use crate::halves::north_half;
-use crate::halves::south_half;
-use crate::halves::west_half;
+use crate::halves::other_corner;
+use crate::halves::same_corner;
 use crate::kept::unmet;
 use ground::Cell;
 use unit::Choice;
@@ -80,9 +82,9 @@ pub(crate) fn by_lat(numbers: &[u32], room: &mut [u16], half: Half, level: u32, 
     if at.0 == north.0 {
         return by_lon(numbers, room, half, level, left - 1);
     }
-    let low = south_half(numbers, room, half, at);
+    let low = same_corner(numbers, room, half, south_of(ground, at));
     let first = by_lon(numbers, room, low, level, left - 1);
-    let high = north_half(numbers, room, half, at);
+    let high = other_corner(numbers, room, half, north_of(ground, at));
     lefter(first, by_lon(numbers, room, high, level, left - 1))
 }
 
@@ -102,11 +104,11 @@ fn by_lon(numbers: &[u32], room: &mut [u16], half: Half, level: u32, left: u32) 
     if at.0 == east.0 {
         return by_lat(numbers, room, half, level, left - 1);
     }
-    let low = west_half(numbers, room, half, at);
+    let low = same_corner(numbers, room, half, west_of(ground, at));
     let first = by_lat(numbers, room, low, level, left - 1);
     if let Choice::At(c) = first {
         return Choice::At(c);
     }
-    let high = east_half(numbers, room, half, at);
+    let high = other_corner(numbers, room, half, east_of(ground, at));
     by_lat(numbers, room, high, level, left - 1)
 }

@@ -47,7 +47,8 @@ fn first_level(r: Rectangle) -> u32
     level
 }
 
-// Whether so many cells of a level in a row are shorter than an extent.
+// Whether so many cells of a level in a row are shorter than an extent. It only decides what a search
+// costs, and nothing is promised of it.
 fn short(r: Rectangle, level: u32, cells: u32) -> bool
     requires { ⌜ 0 < cells ⌝ }
 {

@@ -1,6 +1,6 @@
-// Lets reading, writing, both roads and the boundary be tried from outside: a request a line on standard input,
-// an answer a line on standard output. A line that is no request is answered by `?`, and a question
-// by `1` for yes, `0` for no.
+// Lets reading, writing, both roads and the boundary be tried from outside: a request a line on
+// standard input, an answer a line on standard output. A line that is no request is answered by `?`,
+// and a question by `1` for yes, `0` for no.
 //
 //     write ROOM LAT LON SCALE E W S N NUMBER     answers NUMBER PLACE and the room's bytes
 //     read TEXT                                   answers NUMBER PLACE, the fields and the sides

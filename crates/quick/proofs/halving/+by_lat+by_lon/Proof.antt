@@ -2,30 +2,33 @@
 -- end give the answer, and the answers for two halves make that for the whole. Assumes nothing.
 use Prim.Native.Nat.{ℕ, _-_, _<_}
 use native.Mathlib.Omega.{arith}
-use mathlib.Core.Path.{refl, sym, subst, subst₂, _∙_}
+use mathlib.Core.Path.{_≡_, refl, sym, ap, subst, subst₂, _∙_}
+use lib.ListN.{length}
 use borrow.Author.Needs.{needs}
 use borrow.Fn.Kinds.{In}
 use borrow.Fn.PlainCycle.{Measures, is, falls, and}
 use Rattle.ground.specs.declared.Rectangle.{Rectangle}
 use Rattle.boundary.specs.Corners.{cornersOf}
 use Rattle.unit.specs.declared.Choice.{Choice}
-use Rattle.quick.specs.Kept.{Same}
-use Rattle.quick.specs.KeptLaws.{sound-same, same-then}
-use Rattle.quick.specs.Best.{Best, passed-none, best-lat, best-west, best-east}
+use Rattle.quick.specs.Kept.{Same, southWest, Part}
+use Rattle.quick.specs.KeptLaws.{sound-same, same-then, then-same}
+use Rattle.quick.specs.Best.{Best, southOf, northOf, westOf, eastOf, passed-none, best-lat, best-west, best-east}
 use Rattle.quick.specs.Asked.{ByLat, ByLon}
-use Rattle.quick.specs.HalfLaws.{LatHalves, lat-halved, lat-whole, LonHalves, lon-halved, lon-whole}
+use Rattle.quick.specs.HalfLaws.{south-part, north-part, west-part, east-part, LatHalves, lat-halved, lat-whole, LonHalves, lon-halved, lon-whole}
 use Rattle.quick.proofs.halving.by_lat.Reads as by-lat
 use Rattle.quick.proofs.halving.by_lat.Kinds as by-lat-kinds
 use Rattle.quick.proofs.halving.+by_lat+by_lon.Lts-by_lat as by-lat-lts
 use Rattle.quick.proofs.halving.by_lon.Reads as by-lon
 use Rattle.quick.proofs.halving.by_lon.Kinds as by-lon-kinds
 use Rattle.quick.proofs.halving.+by_lat+by_lon.Lts-by_lon as by-lon-lts
-use Rattle.quick.proofs.halves.east_half.Reads as east-half-reads
+use Rattle.quick.proofs.half.east_of.Reads as east-of-reads
+use Rattle.quick.proofs.half.north_of.Reads as north-of-reads
+use Rattle.quick.proofs.half.south_of.Reads as south-of-reads
+use Rattle.quick.proofs.half.west_of.Reads as west-of-reads
 use Rattle.quick.proofs.halves.lat_split.Reads as lat-split-reads
 use Rattle.quick.proofs.halves.lon_split.Reads as lon-split-reads
-use Rattle.quick.proofs.halves.north_half.Reads as north-half-reads
-use Rattle.quick.proofs.halves.south_half.Reads as south-half-reads
-use Rattle.quick.proofs.halves.west_half.Reads as west-half-reads
+use Rattle.quick.proofs.halves.other_corner.Reads as other-corner-reads
+use Rattle.quick.proofs.halves.same_corner.Reads as same-corner-reads
 use Rattle.quick.proofs.halving.lefter.Reads as lefter-reads
 use Rattle.quick.proofs.halving.passed_over.Reads as passed-over-reads
 use Rattle.quick.proofs.halving.tried.Reads as tried-reads
@@ -62,10 +65,14 @@ lat-calls t = (
   lat-split-reads.Learnt,
   by-lon-below t,
   by-lon.Post,
-  south-half-reads.Asked,
-  south-half-reads.Learnt,
-  north-half-reads.Asked,
-  north-half-reads.Learnt,
+  south-of-reads.Asked,
+  south-of-reads.Learnt,
+  same-corner-reads.Asked,
+  same-corner-reads.Learnt,
+  north-of-reads.Asked,
+  north-of-reads.Learnt,
+  other-corner-reads.Asked,
+  other-corner-reads.Learnt,
   lefter-reads.Asked,
   lefter-reads.Learnt,
 )
@@ -78,10 +85,14 @@ lon-calls t = (
   lon-split-reads.Learnt,
   by-lat-below t,
   by-lat.Post,
-  west-half-reads.Asked,
-  west-half-reads.Learnt,
-  east-half-reads.Asked,
-  east-half-reads.Learnt,
+  west-of-reads.Asked,
+  west-of-reads.Learnt,
+  same-corner-reads.Asked,
+  same-corner-reads.Learnt,
+  east-of-reads.Asked,
+  east-of-reads.Learnt,
+  other-corner-reads.Asked,
+  other-corner-reads.Learnt,
 )
 
 -- some halvings are left where the half is no cell yet
@@ -98,20 +109,35 @@ lon-halves : (t : ℕ) (c : by-lon-lts.Else2 (lon-calls t) (by-lon-at t) by-lon.
     → LonHalves (c .before .before .before .before .before .before .before .before .before .before .before .args .level) (c .before .before .before .before .before .before .before .before .before .before .before .args .left) (c .before .before .before .before .before .before .before .before .before .before .before .args .half .ground) (c .before .before .before .lon-split .result)
 lon-halves t c = lon-halved (c .before .before .before .before .before .before .before .before .before .before .before .pre .1 .1) (c .before .before .before .lon-split .ensures) (c .if2 .left)
 
+-- their ground
+lat-low : (t : ℕ) (c : by-lat-lts.After-same-corner (lat-calls t) (by-lat-at t) by-lat.Post)
+    → c .same-corner .result .ground ≡ southOf (c .before .before .before .before .before .before .before .before .before .before .before .before .before .before .before .args .half .ground) (c .before .before .before .before .before .before .lat-split .result)
+lat-low t c = c .same-corner .ensures .0 .0 ∙ c .before .south-of .ensures
+
+lat-high : (t : ℕ) (c : by-lat-lts.After-other-corner (lat-calls t) (by-lat-at t) by-lat.Post)
+    → c .other-corner .result .ground ≡ northOf (c .before .before .before .before .before .before .before .before .before .before .before .before .before .before .before .before .before .before .before .before .before .before .before .before .args .half .ground) (c .before .before .before .before .before .before .before .before .before .before .before .before .before .before .before .lat-split .result)
+lat-high t c = c .other-corner .ensures .0 .0 ∙ c .before .north-of .ensures
+
+lon-low : (t : ℕ) (c : by-lon-lts.After-same-corner (lon-calls t) (by-lon-at t) by-lon.Post)
+    → c .same-corner .result .ground ≡ westOf (c .before .before .before .before .before .before .before .before .before .before .before .before .before .before .args .half .ground) (c .before .before .before .before .before .before .lon-split .result)
+lon-low t c = c .same-corner .ensures .0 .0 ∙ c .before .west-of .ensures
+
+lon-high : (t : ℕ) (c : by-lon-lts.After-other-corner (lon-calls t) (by-lon-at t) by-lon.Post)
+    → c .other-corner .result .ground ≡ eastOf (c .before .before .before .before .before .before .before .before .before .before .before .before .before .before .before .before .before .before .before .before .before .before .before .before .before .args .half .ground) (c .before .before .before .before .before .before .before .before .before .before .before .before .before .before .before .before .before .lon-split .result)
+lon-high t c = c .other-corner .ensures .0 .0 ∙ c .before .east-of .ensures
+
 -- after the first of them was searched, the room is the same up to the whole's last place
 lat-kept : (t : ℕ) (c : by-lat-lts.After-by-lon2 (lat-calls t) (by-lat-at t) by-lat.Post)
-    → Same (c .before .before .before .before .before .before .before .before .before .before .before .before .before .before .before .before .before .before .args .half .to) (c .before .before .before .before .before .before .before .before .before .before .before .before .before .before .before .before .before .before .args .room .now) (c .by-lon2 .last .1 .0)
+    → Same (c .before .before .before .before .before .before .before .before .before .before .before .before .before .before .before .before .before .before .before .args .half .to) (c .before .before .before .before .before .before .before .before .before .before .before .before .before .before .before .before .before .before .before .args .room .now) (c .by-lon2 .last .1 .0)
 lat-kept t c =
     let low = c .before .before .before .before in
-    same-then (c .before .before .before .before .before .before .before .before .before .before .before .before .before .before .before .before .before .before .args .room .now) (low .south-half .last .1 .0) (c .by-lon2 .last .1 .0) (low .south-half .ensures .1 .0)
-    (low .south-half .ensures .1 .1) (c .by-lon2 .ensures .1)
+    same-then (c .before .before .before .before .before .before .before .before .before .before .before .before .before .before .before .before .before .before .before .args .room .now) (low .same-corner .last .1 .0) (c .by-lon2 .last .1 .0) (low .same-corner .ensures .1) (c .by-lon2 .ensures .1)
 
 lon-kept : (t : ℕ) (c : by-lon-lts.After-by-lat2 (lon-calls t) (by-lon-at t) by-lon.Post)
-    → Same (c .before .before .before .before .before .before .before .before .before .before .before .before .before .before .before .before .before .args .half .to) (c .before .before .before .before .before .before .before .before .before .before .before .before .before .before .before .before .before .args .room .now) (c .by-lat2 .last .1 .0)
+    → Same (c .before .before .before .before .before .before .before .before .before .before .before .before .before .before .before .before .before .before .args .half .to) (c .before .before .before .before .before .before .before .before .before .before .before .before .before .before .before .before .before .before .args .room .now) (c .by-lat2 .last .1 .0)
 lon-kept t c =
     let low = c .before .before .before .before in
-    same-then (c .before .before .before .before .before .before .before .before .before .before .before .before .before .before .before .before .before .args .room .now) (low .west-half .last .1 .0) (c .by-lat2 .last .1 .0) (low .west-half .ensures .1 .0)
-    (low .west-half .ensures .1 .1) (c .by-lat2 .ensures .1)
+    same-then (c .before .before .before .before .before .before .before .before .before .before .before .before .before .before .before .before .before .before .args .room .now) (low .same-corner .last .1 .0) (c .by-lat2 .last .1 .0) (low .same-corner .ensures .1) (c .by-lat2 .ensures .1)
 
 by-lat-passed-over-requires : (t : ℕ) → by-lat-lts.Need-passed-over-requires (lat-calls t) (by-lat-at t) by-lat.Post
 by-lat-passed-over-requires t c κs = search needs
@@ -155,43 +181,60 @@ by-lat-same-length-3 t c = search needs
 by-lat-returns-3 : (t : ℕ) → by-lat-lts.Need-returns-3 (lat-calls t) (by-lat-at t) by-lat.Post
 by-lat-returns-3 t c = c .before .before .by-lon .ensures
 
-by-lat-south-half-requires : (t : ℕ) → by-lat-lts.Need-south-half-requires (lat-calls t) (by-lat-at t) by-lat.Post
-by-lat-south-half-requires t c κs =
-    let start = c .before .before .before .before .before .before .before .before .before .before .before .before .before in
-    (start .pre .1 .0, lat-halves t (c .before) .between)
+by-lat-south-of-requires : (t : ℕ) → by-lat-lts.Need-south-of-requires (lat-calls t) (by-lat-at t) by-lat.Post
+by-lat-south-of-requires t c κs = search needs
 
-by-lat-sub-by-lon-2 : (t : ℕ) → by-lat-lts.Need-sub-by-lon-2 (lat-calls t) (by-lat-at t) by-lat.Post
-by-lat-sub-by-lon-2 t c = omega (arith, lat-some t (c .before .before .before .before .before))
-
-by-lat-by-lon-requires-2 : (t : ℕ) → by-lat-lts.Need-by-lon-requires-2 (lat-calls t) (by-lat-at t) by-lat.Post
-by-lat-by-lon-requires-2 t c κs =
-    let start = c .before .before .before .before .before .before .before .before .before .before .before .before .before .before .before .before .before in
-    let low = c .before .before .before in (
-      omega (arith, start .pre .0, lat-some t (low .before .before)),
+by-lat-same-corner-requires : (t : ℕ) → by-lat-lts.Need-same-corner-requires (lat-calls t) (by-lat-at t) by-lat.Post
+by-lat-same-corner-requires t c κs =
+    let other = c .before .before in
+    let start = other .before .before .before .before .before .before .before .before .before .before .before .before in
+    let s = start .pre .1 .0 in
+    let at = other .before .before .before .lat-split .result in (
+      s,
       (
-        low .south-half .ensures .0 .1,
-        subst (ByLon (start .args .level) (start .args .left - 1)) (sym (low .south-half .ensures .0 .0)) (lat-halves t (low .before .before) .south),
+        subst (Part (start .args .half)) (sym (c .south-of .ensures)) (south-part s at (lat-halves t other .between)),
+        ap southWest (c .south-of .ensures),
       ),
     )
 
-by-lat-north-half-requires : (t : ℕ) → by-lat-lts.Need-north-half-requires (lat-calls t) (by-lat-at t) by-lat.Post
-by-lat-north-half-requires t c κs =
-    let first = c .before .before .before in
-    let start = first .before .before .before .before .before .before .before .before .before .before .before .before .before .before .before .before .before .before in
-    (sound-same (start .pre .1 .0) (lat-kept t first) (search needs), lat-halves t (first .before .before .before .before .before .before) .between)
+by-lat-sub-by-lon-2 : (t : ℕ) → by-lat-lts.Need-sub-by-lon-2 (lat-calls t) (by-lat-at t) by-lat.Post
+by-lat-sub-by-lon-2 t c = omega (arith, lat-some t (c .before .before .before .before .before .before))
+
+by-lat-by-lon-requires-2 : (t : ℕ) → by-lat-lts.Need-by-lon-requires-2 (lat-calls t) (by-lat-at t) by-lat.Post
+by-lat-by-lon-requires-2 t c κs =
+    let low = c .before .before .before in
+    let other = low .before .before .before in
+    let start = other .before .before .before .before .before .before .before .before .before .before .before .before in (
+      omega (arith, start .pre .0, lat-some t other),
+      (
+        low .same-corner .ensures .0 .1,
+        subst (ByLon (start .args .level) (start .args .left - 1)) (sym (lat-low t low)) (lat-halves t other .south),
+      ),
+    )
+
+by-lat-north-of-requires : (t : ℕ) → by-lat-lts.Need-north-of-requires (lat-calls t) (by-lat-at t) by-lat.Post
+by-lat-north-of-requires t c κs = search needs
+
+by-lat-other-corner-requires : (t : ℕ) → by-lat-lts.Need-other-corner-requires (lat-calls t) (by-lat-at t) by-lat.Post
+by-lat-other-corner-requires t c κs =
+    let first = c .before .before .before .before in
+    let other = first .before .before .before .before .before .before .before in
+    let start = other .before .before .before .before .before .before .before .before .before .before .before .before in
+    let at = other .before .before .before .lat-split .result in
+    (sound-same (start .pre .1 .0) (lat-kept t first) (search needs), subst (Part (start .args .half)) (sym (c .north-of .ensures)) (north-part (start .pre .1 .0) at (lat-halves t other .between)))
 
 by-lat-sub-by-lon-3 : (t : ℕ) → by-lat-lts.Need-sub-by-lon-3 (lat-calls t) (by-lat-at t) by-lat.Post
-by-lat-sub-by-lon-3 t c = omega (arith, lat-some t (c .before .before .before .before .before .before .before .before .before .before .before .before .before))
+by-lat-sub-by-lon-3 t c = omega (arith, lat-some t (c .before .before .before .before .before .before .before .before .before .before .before .before .before .before .before))
 
 by-lat-by-lon-requires-3 : (t : ℕ) → by-lat-lts.Need-by-lon-requires-3 (lat-calls t) (by-lat-at t) by-lat.Post
 by-lat-by-lon-requires-3 t c κs =
     let high = c .before .before .before in
-    let other = high .before .before .before .before .before .before .before .before .before .before in
+    let other = high .before .before .before .before .before .before .before .before .before .before .before .before in
     let start = other .before .before .before .before .before .before .before .before .before .before .before .before in (
       omega (arith, start .pre .0, lat-some t other),
       (
-        high .north-half .ensures .0 .1,
-        subst (ByLon (start .args .level) (start .args .left - 1)) (sym (high .north-half .ensures .0 .0)) (lat-halves t other .north),
+        high .other-corner .ensures .0 .1,
+        subst (ByLon (start .args .level) (start .args .left - 1)) (sym (lat-high t high)) (lat-halves t other .north),
       ),
     )
 
@@ -199,15 +242,23 @@ by-lat-lefter-requires : (t : ℕ) → by-lat-lts.Need-lefter-requires (lat-call
 by-lat-lefter-requires t c κs = search needs
 
 by-lat-same-length-4 : (t : ℕ) → by-lat-lts.Need-same-length-4 (lat-calls t) (by-lat-at t) by-lat.Post
-by-lat-same-length-4 t c = search needs
+by-lat-same-length-4 t c =
+    let second = c .before .before .before in
+    let high = second .before .before .before .before in
+    let first = high .before .before .before .before .before in
+    let start = first .before .before .before .before .before .before .before .before .before .before .before .before .before .before .before .before .before .before .before in
+    let a : length (first .by-lon2 .last .1 .0) ≡ length (start .args .room .now) = search needs in
+    let b : length (high .other-corner .last .1 .0) ≡ length (first .by-lon2 .last .1 .0) = search needs in
+    let d : length (second .by-lon3 .last .1 .0) ≡ length (high .other-corner .last .1 .0) = search needs in
+    d ∙ b ∙ a
 
 by-lat-returns-4 : (t : ℕ) → by-lat-lts.Need-returns-4 (lat-calls t) (by-lat-at t) by-lat.Post
 by-lat-returns-4 t c =
     let second = c .before .before .before in
     let high = second .before .before .before .before in
-    let first = high .before .before .before .before in
+    let first = high .before .before .before .before .before in
     let low = first .before .before .before .before in
-    let other = low .before .before in
+    let other = low .before .before .before in
     let start = other .before .before .before .before .before .before .before .before .before .before .before .before in
     let corners = cornersOf (start .args .numbers .now) in
     let level = start .args .level in
@@ -217,12 +268,10 @@ by-lat-returns-4 t c =
       subst (Best corners level ground) (sym (c .lefter .ensures))
           (best-lat corners level (omega (arith, b .coarsest)) (b .finest) ground (other .before .before .before .lat-split .result) (halves .side)
           (omega (arith, halves .between .0)) (omega (arith, halves .between .1)) (first .by-lon2 .result) (second .by-lon3 .result)
-          (subst (λ (r : Rectangle). Best corners level r (first .by-lon2 .result)) (low .south-half .ensures .0 .0) (first .by-lon2 .ensures .0))
-          (subst (λ (r : Rectangle). Best corners level r (second .by-lon3 .result)) (high .north-half .ensures .0 .0) (second .by-lon3 .ensures .0))),
-      same-then (start .args .room .now) (high .north-half .last .1 .0) (second .by-lon3 .last .1 .0) (high .north-half .ensures .1 .0)
-          (same-then (start .args .room .now) (first .by-lon2 .last .1 .0) (high .north-half .last .1 .0) (omega arith) (lat-kept t first)
-          (high .north-half .ensures .1 .1))
-          (second .by-lon3 .ensures .1),
+          (subst (λ (r : Rectangle). Best corners level r (first .by-lon2 .result)) (lat-low t low) (first .by-lon2 .ensures .0))
+          (subst (λ (r : Rectangle). Best corners level r (second .by-lon3 .result)) (lat-high t high) (second .by-lon3 .ensures .0))),
+      then-same (start .args .room .now) (first .by-lon2 .last .1 .0) (high .other-corner .last .1 .0) (second .by-lon3 .last .1 .0)
+          (lat-kept t first) (high .other-corner .ensures .1) (second .by-lon3 .ensures .1),
     )
 
 by-lon-passed-over-requires : (t : ℕ) → by-lon-lts.Need-passed-over-requires (lon-calls t) (by-lon-at t) by-lon.Post
@@ -255,22 +304,34 @@ by-lon-same-length-2 t c = search needs
 by-lon-returns-2 : (t : ℕ) → by-lon-lts.Need-returns-2 (lon-calls t) (by-lon-at t) by-lon.Post
 by-lon-returns-2 t c = c .before .before .by-lat .ensures
 
-by-lon-west-half-requires : (t : ℕ) → by-lon-lts.Need-west-half-requires (lon-calls t) (by-lon-at t) by-lon.Post
-by-lon-west-half-requires t c κs =
-    let start = c .before .before .before .before .before .before .before .before .before .before .before .before in
-    (start .pre .1 .0, lon-halves t (c .before) .between)
+by-lon-west-of-requires : (t : ℕ) → by-lon-lts.Need-west-of-requires (lon-calls t) (by-lon-at t) by-lon.Post
+by-lon-west-of-requires t c κs = search needs
+
+by-lon-same-corner-requires : (t : ℕ) → by-lon-lts.Need-same-corner-requires (lon-calls t) (by-lon-at t) by-lon.Post
+by-lon-same-corner-requires t c κs =
+    let other = c .before .before in
+    let start = other .before .before .before .before .before .before .before .before .before .before .before in
+    let s = start .pre .1 .0 in
+    let at = other .before .before .before .lon-split .result in (
+      s,
+      (
+        subst (Part (start .args .half)) (sym (c .west-of .ensures)) (west-part s at (lon-halves t other .between)),
+        ap southWest (c .west-of .ensures),
+      ),
+    )
 
 by-lon-sub-by-lat-2 : (t : ℕ) → by-lon-lts.Need-sub-by-lat-2 (lon-calls t) (by-lon-at t) by-lon.Post
-by-lon-sub-by-lat-2 t c = omega (arith, c .before .before .before .before .before .before .before .before .before .before .before .before .before .before .before .before .pre .1 .1 .odd)
+by-lon-sub-by-lat-2 t c = omega (arith, c .before .before .before .before .before .before .before .before .before .before .before .before .before .before .before .before .before .pre .1 .1 .odd)
 
 by-lon-by-lat-requires-2 : (t : ℕ) → by-lon-lts.Need-by-lat-requires-2 (lon-calls t) (by-lon-at t) by-lon.Post
 by-lon-by-lat-requires-2 t c κs =
-    let start = c .before .before .before .before .before .before .before .before .before .before .before .before .before .before .before .before in
-    let low = c .before .before .before in (
+    let low = c .before .before .before in
+    let other = low .before .before .before in
+    let start = other .before .before .before .before .before .before .before .before .before .before .before in (
       omega (arith, start .pre .0, start .pre .1 .1 .odd),
       (
-        low .west-half .ensures .0 .1,
-        subst (ByLat (start .args .level) (start .args .left - 1)) (sym (low .west-half .ensures .0 .0)) (lon-halves t (low .before .before) .west),
+        low .same-corner .ensures .0 .1,
+        subst (ByLat (start .args .level) (start .args .left - 1)) (sym (lon-low t low)) (lon-halves t other .west),
       ),
     )
 
@@ -284,7 +345,7 @@ by-lon-returns-3 : (t : ℕ) → by-lon-lts.Need-returns-3 (lon-calls t) (by-lon
 by-lon-returns-3 t c =
     let first = c .before .before .before .before .before in
     let low = first .before .before .before .before in
-    let other = low .before .before in
+    let other = low .before .before .before in
     let start = other .before .before .before .before .before .before .before .before .before .before .before in
     let corners = cornersOf (start .args .numbers .now) in
     let level = start .args .level in
@@ -292,46 +353,58 @@ by-lon-returns-3 t c =
     let b = start .pre .1 .1 in (
       best-west corners level (omega (arith, b .coarsest)) (b .finest) (start .args .half .ground) (other .before .before .before .lon-split .result) (halves .side)
           (omega (arith, halves .between .0)) (omega (arith, halves .between .1))
-          (subst₂ (λ (r : Rectangle) (x : Choice). Best corners level r x) (low .west-half .ensures .0 .0) (c .before .first .given .1)
-          (first .by-lat2 .ensures .0)),
+          (subst₂ (λ (r : Rectangle) (x : Choice). Best corners level r x) (lon-low t low) (c .before .first .given .1) (first .by-lat2 .ensures .0)),
       lon-kept t first,
     )
 
 by-lon-enum-told : (t : ℕ) → by-lon-lts.Need-enum-told (lon-calls t) (by-lon-at t) by-lon.Post
 by-lon-enum-told t c = search needs
 
-by-lon-east-half-requires : (t : ℕ) → by-lon-lts.Need-east-half-requires (lon-calls t) (by-lon-at t) by-lon.Post
-by-lon-east-half-requires t c κs =
-    let first = c .before .before .before .before .before in
-    let start = first .before .before .before .before .before .before .before .before .before .before .before .before .before .before .before .before .before in
-    (sound-same (start .pre .1 .0) (lon-kept t first) (search needs), lon-halves t (first .before .before .before .before .before .before) .between)
+by-lon-east-of-requires : (t : ℕ) → by-lon-lts.Need-east-of-requires (lon-calls t) (by-lon-at t) by-lon.Post
+by-lon-east-of-requires t c κs = search needs
+
+by-lon-other-corner-requires : (t : ℕ) → by-lon-lts.Need-other-corner-requires (lon-calls t) (by-lon-at t) by-lon.Post
+by-lon-other-corner-requires t c κs =
+    let first = c .before .before .before .before .before .before in
+    let other = first .before .before .before .before .before .before .before in
+    let start = other .before .before .before .before .before .before .before .before .before .before .before in
+    let at = other .before .before .before .lon-split .result in
+    (sound-same (start .pre .1 .0) (lon-kept t first) (search needs), subst (Part (start .args .half)) (sym (c .east-of .ensures)) (east-part (start .pre .1 .0) at (lon-halves t other .between)))
 
 by-lon-sub-by-lat-3 : (t : ℕ) → by-lon-lts.Need-sub-by-lat-3 (lon-calls t) (by-lon-at t) by-lon.Post
-by-lon-sub-by-lat-3 t c = omega (arith, c .before .before .before .before .before .before .before .before .before .before .before .before .before .before .before .before .before .before .before .before .before .before .before .before .before .before .pre .1 .1 .odd)
+by-lon-sub-by-lat-3 t c = omega (arith, c .before .before .before .before .before .before .before .before .before .before .before .before .before .before .before .before .before .before .before .before .before .before .before .before .before .before .before .before .pre .1 .1 .odd)
 
 by-lon-by-lat-requires-3 : (t : ℕ) → by-lon-lts.Need-by-lat-requires-3 (lon-calls t) (by-lon-at t) by-lon.Post
 by-lon-by-lat-requires-3 t c κs =
     let high = c .before .before .before in
-    let other = high .before .before .before .before .before .before .before .before .before .before .before .before in
+    let other = high .before .before .before .before .before .before .before .before .before .before .before .before .before .before in
     let start = other .before .before .before .before .before .before .before .before .before .before .before in (
       omega (arith, start .pre .0, start .pre .1 .1 .odd),
       (
-        high .east-half .ensures .0 .1,
-        subst (ByLat (start .args .level) (start .args .left - 1)) (sym (high .east-half .ensures .0 .0)) (lon-halves t other .east),
+        high .other-corner .ensures .0 .1,
+        subst (ByLat (start .args .level) (start .args .left - 1)) (sym (lon-high t high)) (lon-halves t other .east),
       ),
     )
 
 by-lon-same-length-4 : (t : ℕ) → by-lon-lts.Need-same-length-4 (lon-calls t) (by-lon-at t) by-lon.Post
-by-lon-same-length-4 t c = search needs
+by-lon-same-length-4 t c =
+    let second = c .before .before in
+    let high = second .before .before .before .before in
+    let first = high .before .before .before .before .before .before .before in
+    let start = first .before .before .before .before .before .before .before .before .before .before .before .before .before .before .before .before .before .before in
+    let a : length (first .by-lat2 .last .1 .0) ≡ length (start .args .room .now) = search needs in
+    let b : length (high .other-corner .last .1 .0) ≡ length (first .by-lat2 .last .1 .0) = search needs in
+    let d : length (second .by-lat3 .last .1 .0) ≡ length (high .other-corner .last .1 .0) = search needs in
+    d ∙ b ∙ a
 
 by-lon-returns-4 : (t : ℕ) → by-lon-lts.Need-returns-4 (lon-calls t) (by-lon-at t) by-lon.Post
 by-lon-returns-4 t c =
     let second = c .before .before in
     let high = second .before .before .before .before in
-    let none = high .before .before in
+    let none = high .before .before .before in
     let first = none .before .before .before .before in
     let low = first .before .before .before .before in
-    let other = low .before .before in
+    let other = low .before .before .before in
     let start = other .before .before .before .before .before .before .before .before .before .before .before in
     let corners = cornersOf (start .args .numbers .now) in
     let level = start .args .level in
@@ -339,13 +412,10 @@ by-lon-returns-4 t c =
     let b = start .pre .1 .1 in (
       best-east corners level (omega (arith, b .coarsest)) (b .finest) (start .args .half .ground) (other .before .before .before .lon-split .result) (halves .side)
           (omega (arith, halves .between .0)) (omega (arith, halves .between .1)) (second .by-lat3 .result)
-          (subst₂ (λ (r : Rectangle) (x : Choice). Best corners level r x) (low .west-half .ensures .0 .0) (none .enum-told .given .1)
-          (first .by-lat2 .ensures .0))
-          (subst (λ (r : Rectangle). Best corners level r (second .by-lat3 .result)) (high .east-half .ensures .0 .0) (second .by-lat3 .ensures .0)),
-      same-then (start .args .room .now) (high .east-half .last .1 .0) (second .by-lat3 .last .1 .0) (high .east-half .ensures .1 .0)
-          (same-then (start .args .room .now) (first .by-lat2 .last .1 .0) (high .east-half .last .1 .0) (omega arith) (lon-kept t first)
-          (high .east-half .ensures .1 .1))
-          (second .by-lat3 .ensures .1),
+          (subst₂ (λ (r : Rectangle) (x : Choice). Best corners level r x) (lon-low t low) (none .enum-told .given .1) (first .by-lat2 .ensures .0))
+          (subst (λ (r : Rectangle). Best corners level r (second .by-lat3 .result)) (lon-high t high) (second .by-lat3 .ensures .0)),
+      then-same (start .args .room .now) (first .by-lat2 .last .1 .0) (high .other-corner .last .1 .0) (second .by-lat3 .last .1 .0)
+          (lon-kept t first) (high .other-corner .ensures .1) (second .by-lat3 .ensures .1),
     )
 
 pub +by-lat+by-lon-spec : {M : Type 1} → statement M
@@ -363,10 +433,12 @@ pub +by-lat+by-lon-spec : {M : Type 1} → statement M
     (by-lat-by-lon-requires t)
     (by-lat-same-length-3 t)
     (by-lat-returns-3 t)
-    (by-lat-south-half-requires t)
+    (by-lat-south-of-requires t)
+    (by-lat-same-corner-requires t)
     (by-lat-sub-by-lon-2 t)
     (by-lat-by-lon-requires-2 t)
-    (by-lat-north-half-requires t)
+    (by-lat-north-of-requires t)
+    (by-lat-other-corner-requires t)
     (by-lat-sub-by-lon-3 t)
     (by-lat-by-lon-requires-3 t)
     (by-lat-lefter-requires t)
@@ -381,14 +453,16 @@ pub +by-lat+by-lon-spec : {M : Type 1} → statement M
     (by-lon-by-lat-requires t)
     (by-lon-same-length-2 t)
     (by-lon-returns-2 t)
-    (by-lon-west-half-requires t)
+    (by-lon-west-of-requires t)
+    (by-lon-same-corner-requires t)
     (by-lon-sub-by-lat-2 t)
     (by-lon-by-lat-requires-2 t)
     (by-lon-enum-known-first t)
     (by-lon-same-length-3 t)
     (by-lon-returns-3 t)
     (by-lon-enum-told t)
-    (by-lon-east-half-requires t)
+    (by-lon-east-of-requires t)
+    (by-lon-other-corner-requires t)
     (by-lon-sub-by-lat-3 t)
     (by-lon-by-lat-requires-3 t)
     (by-lon-same-length-4 t)
