@@ -1,7 +1,7 @@
 -- The laws of writing: what accepted fields are, and the code as two numbers spelled. Assumes nothing.
 use Prim.Native.Nat.{ℕ, _+_, _≤_, _<_, _%_}
 use native.Mathlib.Omega.{arith}
-use mathlib.Core.Path.{_≡_, ap, ap₂, _∙_, sym}
+use mathlib.Core.Path.{_≡_, refl, ap, ap₂, _∙_, sym}
 use mathlib.Core.Bool.{false, not, _||_}
 use mathlib.Core.List.{List, [], _∷_, _++_, map, map-append, append-assoc}
 use lib.Dec.{eqb, leb, ltb}
@@ -18,6 +18,11 @@ use Rattle.code.specs.declared.Fields.{Fields}
 use Rattle.code.specs.Location.{locationOf}
 use Rattle.code.specs.Inner.{tailOf, Tail}
 use Rattle.code.specs.Code.{valuesOf, codeOf, outside, noReference, noPoint, noSpans, fieldChecks, writeChecks, writing}
+
+-- A code has twenty bytes
+pub code-twenty : (f : Fields) → length (codeOf f) ≡ 20
+unfolding codeOf valuesOf
+code-twenty f = refl
 
 -- A number that is not outside a range is within it
 pub within : (least most x : ℕ) → outside least most x ≡ false → (least ≤ x) × (x ≤ most)

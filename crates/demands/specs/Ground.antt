@@ -4,11 +4,11 @@ use Prim.Native.Nat.{ℕ}
 use native.Mathlib.Omega.{arith}
 use mathlib.Core.Path.{_≡_, refl, ap, ap₂, sym, _∙_}
 use mathlib.Core.List.{List}
-use lib.ListN.{take, drop, length}
+use lib.ListN.{take, drop}
 use lib.Seq.{take-at}
 use Rattle.replies.specs.Replies.{Said, accepted, run, Outcome, outcome}
-use Rattle.code.specs.declared.Fields.{Fields}
-use Rattle.code.specs.Code.{valuesOf, codeOf}
+use Rattle.code.specs.Code.{codeOf}
+use Rattle.code.specs.Writing.{code-twenty}
 use Rattle.boundary.specs.Corners.{cornersOf}
 use Rattle.boundary.specs.Changes.{SameGround}
 use Rattle.unit.specs.declared.Kind.{Kind}
@@ -37,11 +37,6 @@ zero-accepts coded.Extent e = absurd (omega arith)
 zero-accepts coded.Number e = absurd (omega arith)
 zero-accepts coded.NoCell e = absurd (omega arith)
 zero-accepts coded.Span e = absurd (omega arith)
-
--- A code has twenty bytes
-code-twenty : (f : Fields) → length (codeOf f) ≡ 20
-unfolding codeOf valuesOf
-code-twenty f = refl
 
 module _ (kind : Kind) (number : ℕ) where
   -- The number of coding, where checks 1 to 3 pass, is told by the corners

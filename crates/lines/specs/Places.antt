@@ -1,4 +1,4 @@
--- What the contracts of `src/` cite beside the page: a word at a position, a line that grows in a room, a text put into a buffer.
+-- What the contracts of `src/` cite beside the page: a word at a position, the unit of a line, a text put into a buffer.
 -- Assumes nothing.
 use Prim.Native.Nat.{ℕ, _+_, _-_, min}
 use Prim.Native.Char.{code}
@@ -17,9 +17,6 @@ use Rattle.lines.specs.declared.number.Word.{Word}
 use Rattle.lines.specs.declared.number.Word.the-variants.{Value, Other}
 use Rattle.lines.specs.declared.stated.Unit.{Unit}
 use Rattle.lines.specs.declared.stated.Unit.the-variants.{Stated, Bad as Bad·u}
-use Rattle.lines.specs.declared.line.Line.{Line}
-use Rattle.lines.specs.declared.line.Taken.{Taken}
-use Rattle.lines.specs.declared.line.Taken.the-variants.{Ended, Open}
 
 -- ---- a number at a position
 
@@ -100,30 +97,7 @@ unitAfter kind line = unitSaid (formOf ((kind ∷ []) ∷ cut (code " ") (drop 2
 unfoldable pub coordinatesAfter : ℕ → List ℕ → List ℕ
 coordinatesAfter kind line = coordinatesOf ((kind ∷ []) ∷ cut (code " ") (drop 2 line))
 
--- ---- a line that grows in a room
-
--- a line of no bytes yet
-abbrev pub empty : Line
-empty = record { len = 0; long = false }
-
--- a line after one byte more, where a room has `room` bytes
-unfoldable pub grown : ℕ → Line → Line
-grown room line = cond (ltb (line .len) room) (record { len = line .len + 1; long = line .long }) (record { len = line .len; long = true })
-
--- a line after the bytes of a text, one after another
-unfoldable pub grownBy : ℕ → Line → List ℕ → Line
-grownBy room line [] = line
-grownBy room line (b ∷ text) = grownBy room (grown room line) text
-
--- a room after the bytes of a text, one after another
-unfoldable pub filledBy : Line → List ℕ → List ℕ → List ℕ
-filledBy line room [] = room
-filledBy line room (b ∷ text) = filledBy (grown (length room) line) (set room (line .len) b) text
-
--- a line after the bytes of a text up to a line feed, with the position after that, or still open where the text has none
-unfoldable pub takenBy : ℕ → Line → ℕ → List ℕ → Taken
-takenBy room line at [] = Open line
-takenBy room line at (b ∷ text) = cond (eqb b (code "\n")) (Ended line (at + 1)) (takenBy room (grown room line) (at + 1) text)
+-- ---- a line that starts with a text
 
 -- whether a line starts with the bytes of a text
 unfoldable pub startsWith : List ℕ → List ℕ → Bool

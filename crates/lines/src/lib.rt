@@ -9,11 +9,8 @@ mod output;
 mod stated;
 
 pub use line::LONGEST;
-pub use line::Line;
-pub use line::Taken;
 pub use line::add;
 pub use line::starts;
-pub use line::take_line;
 pub use number::Number;
 pub use number::Numbers;
 pub use number::number_at;

@@ -15,16 +15,14 @@ mod road;
 
 use libc::STDIN_FILENO;
 use libc::STDOUT_FILENO;
-use lines::Line;
-use lines::Taken;
 
 // More bytes than an answer has: with fewer left the output is written.
 const ANSWER: usize = 256;
 
-// What goes from read to read: the line so far, how many bytes of the output wait to be written, and
-// whether all writes went well.
+// What goes from read to read: how many bytes of the line that comes in stand in the room, how many
+// bytes of the output wait to be written, and whether all writes went well.
 struct State {
-    line: Line,
+    len: usize,
     waiting: usize,
     sound: bool,
 }
@@ -32,7 +30,7 @@ struct State {
 fn main() {
     let mut input = io::large_buffer();
     let mut output = io::large_buffer();
-    let mut room = [0u8; lines::LONGEST];
+    let mut room = [0u8; register::ROOM];
     answer_all(&mut input, &mut room, &mut output);
 }
 
@@ -40,10 +38,7 @@ fn main() {
 // no run uses up. What waits is written before each read.
 fn answer_all(input: &mut [u8], room: &mut [u8], output: &mut [u8]) {
     let mut state = State {
-        line: Line {
-            len: 0,
-            long: false,
-        },
+        len: 0,
         waiting: 0,
         sound: true,
     };
@@ -67,37 +62,32 @@ fn answer_all(input: &mut [u8], room: &mut [u8], output: &mut [u8]) {
 // Answers the lines that end in the bytes of one read, up to a failed write.
 fn take(start: State, bytes: &[u8], room: &mut [u8], output: &mut [u8]) -> State {
     let mut state = start;
-    let mut at = 0;
-    while at < bytes.len() {
-        let taken = lines::take_line(bytes, at, state.line, room);
-        match taken {
-            Taken::Ended(line, next) => {
-                state = end_line(line, state.waiting, room, output);
-                at = next;
-            }
-            Taken::Open(line) => {
-                return State {
-                    line,
-                    waiting: state.waiting,
-                    sound: true,
-                };
-            }
-        }
-        if !state.sound {
-            return state;
-        }
+    let mut i = 0;
+    while i < bytes.len() && state.sound {
+        state = take_byte(state, bytes[i], room, output);
+        i += 1;
     }
     state
 }
 
+// A line feed ends a line; any other byte goes into the room.
+fn take_byte(state: State, byte: u8, room: &mut [u8], output: &mut [u8]) -> State {
+    if byte == b'\n' {
+        return end_line(state, room, output);
+    }
+    let len = lines::add(room, state.len, byte);
+    State {
+        len,
+        waiting: state.waiting,
+        sound: state.sound,
+    }
+}
+
 // Answers a line and starts the next, and writes what waits where little room is left.
-fn end_line(line: Line, waiting: usize, room: &[u8], output: &mut [u8]) -> State {
-    let waiting = request::answer_line(line, room, output, waiting);
+fn end_line(state: State, room: &[u8], output: &mut [u8]) -> State {
+    let waiting = request::answer_line(room, state.len, output, state.waiting);
     let next = State {
-        line: Line {
-            len: 0,
-            long: false,
-        },
+        len: 0,
         waiting,
         sound: true,
     };
@@ -113,10 +103,9 @@ fn write_out(state: State, output: &[u8]) -> State {
         return state;
     }
     let waiting = state.waiting;
-    let line = state.line;
     let sound = waiting <= output.len() && io::write_all(STDOUT_FILENO, &output[0..waiting]);
     State {
-        line,
+        len: state.len,
         waiting: 0,
         sound,
     }
@@ -125,8 +114,7 @@ fn write_out(state: State, output: &[u8]) -> State {
 // Answers a last line that has no line feed, and writes what waits. No line starts after a line feed
 // that ends the input.
 fn finish(state: State, room: &[u8], output: &mut [u8]) {
-    let line = state.line;
-    if line.len > 0 {
-        write_out(end_line(line, state.waiting, room, output), output);
+    if state.len > 0 {
+        write_out(end_line(state, room, output), output);
     }
 }

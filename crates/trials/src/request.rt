@@ -8,16 +8,14 @@ use ground::Lat;
 use ground::Lon;
 use ground::Point;
 use ground::Rectangle;
-use lines::Line;
 use lines::Numbers;
 
 // More numbers than a line has: each takes a space and a digit.
 const MOST: usize = lines::LONGEST / 2;
 
 // The answer to a line, and a line feed.
-pub(crate) fn answer_line(line: Line, room: &[u8], out: &mut [u8], at: usize) -> usize {
-    let len = line.len;
-    if line.long {
+pub(crate) fn answer_line(room: &[u8], len: usize, out: &mut [u8], at: usize) -> usize {
+    if len > lines::LONGEST {
         return lines::put(out, at, b"?\n");
     }
     if room.len() < len {

@@ -43,18 +43,11 @@ fn answer_unit(road: Road, size: usize, text: &[u8], out: &mut [u8], at: usize) 
         road,
         &mut room[0..size],
         &numbers[0..count],
-        kind_of(letter),
+        register::kind_of(letter),
         number,
         out,
         at,
     )
-}
-
-fn kind_of(letter: u8) -> Kind {
-    if letter == b'B' {
-        return Kind::Building;
-    }
-    Kind::Other
 }
 
 // What a road says.

@@ -1,10 +1,12 @@
 -- The frame makes coding whole: where one of checks 1 to 6 refuses, coding says what it says and leaves the room; else coding is its end
 -- around the chosen cell. Assumes nothing.
 use Prim.Native.Nat.{ℕ, zero, suc, _/_, _≤_}
+use native.Mathlib.Omega.{arith}
 use mathlib.Core.Path.{_≡_, refl, ap, ap₂, sym, _∙_}
 use mathlib.Core.Bool.{Bool, true, false, cond, true≢false}
-use mathlib.Core.List.{List, [], _∷_}
-use lib.ListN.{length, take, drop}
+use mathlib.Core.List.{List, [], _∷_, _++_}
+use lib.Dec.{eqb}
+use lib.ListN.{length, take, drop, length-drop, length-append}
 use borrow.Author.Tests.{ne-eqb, le-ltb}
 use Rattle.replies.specs.Replies.{Said, refused, Check, check, run, Outcome, outcome}
 use Rattle.replies.specs.Tests.{none-of, Passed, passed}
@@ -13,7 +15,7 @@ use Rattle.ground.specs.declared.Rectangle.{Rectangle}
 use Rattle.ground.specs.CellTest.{is-cell}
 use Rattle.code.specs.declared.Fields.{Fields}
 use Rattle.code.specs.Code.{writing, codeOf}
-use Rattle.code.specs.Writing.{Good, within, good-writing, zero-writing, refused-writing}
+use Rattle.code.specs.Writing.{code-twenty, Good, within, good-writing, zero-writing, refused-writing}
 use Rattle.boundary.specs.Corners.{cornersOf}
 use Rattle.unit.specs.declared.Kind.{Kind}
 use Rattle.unit.specs.declared.Coded.{Coded}
@@ -44,6 +46,23 @@ other-rows : (n : ℕ) (cs : List Check) → Passed (take n cs) → run cs ≡ r
 other-rows zero cs t = refl
 other-rows (suc n) [] t = refl
 other-rows (suc n) (c ∷ cs) t = rw (t .0) (other-rows n cs (t .1))
+
+-- Coding leaves no more bytes in a room that has twenty
+pub coding-fits : (room numbers : List ℕ) (kind : Kind) (number : ℕ) → 20 ≤ length room → length (coding room numbers kind number .room) ≤ length room
+unfolding coding
+coding-fits room numbers kind number h =
+    at (eqb (run (codeChecks (length room) numbers kind number) .number) 0) (choose (cornersOf numbers))
+  where
+    at : (b : Bool) (c : Choice) → length (cond b (codeAt (extremesOf (cornersOf numbers)) number c ++ drop 20 room) room) ≤ length room
+    at false c = omega arith
+    at true Nowhere = omega (arith, length-drop 20 room)
+    at true (At c) =
+        let code : List ℕ = codeOf (fieldsOf (extremesOf (cornersOf numbers)) number c) in
+        omega
+        (arith,
+        length-append code (drop 20 room),
+        length-drop 20 room,
+        code-twenty (fieldsOf (extremesOf (cornersOf numbers)) number c))
 
 -- Good fields have no span above 31
 good-spans : (f : Fields) → Good f → above31 f ≡ false

@@ -1,0 +1,59 @@
+-- Document 01, "The listing program": the line automaton. Standard input comes in bytes; a line feed ends a line, and a line's first
+-- bytes stand in a room while it comes in. Assumes nothing.
+use Prim.Native.Nat.{ℕ, _+_, _%_, _^_}
+use Prim.Native.Char.{code}
+use mathlib.Core.Bool.{cond}
+use mathlib.Core.List.{List, [], _∷_, _++_}
+use lib.ListN.{length, take, set}
+use lib.Dec.{ltb, eqb}
+use Rattle.lines.specs.Lines.{Reply, lineSaid, replyLine}
+
+-- the line that comes in: its number, how many of its bytes stand in the room, and the room
+pub record Coming : Type 0 where
+  pub number : ℕ
+  pub len : ℕ
+  pub room : List ℕ
+
+-- "line number from 1": before any byte
+abbrev pub first : List ℕ → Coming
+first room = record { number = 1; len = 0; room = room }
+
+-- how many bytes stand in a room of `size` bytes after one byte more: "the rest of that line is passed over"
+unfoldable pub grown : ℕ → ℕ → ℕ
+grown size len = cond (ltb len size) (len + 1) len
+
+-- after a line feed: the next line. After 2^64 - 1, as a machine counts, comes 0
+abbrev pub next : Coming → Coming
+next line = record { number = (line .number + 1) % 2 ^ 64; len = 0; room = line .room }
+
+-- after any other byte
+abbrev pub more : ℕ → Coming → Coming
+more b line = record { number = line .number; len = grown (length (line .room)) (line .len); room = set (line .room) (line .len) b }
+
+-- after bytes
+unfoldable pub after : Coming → List ℕ → Coming
+after line [] = line
+after line (b ∷ bytes) = cond (eqb b (code "\n")) (after (next line) bytes) (after (more b line) bytes)
+
+-- the reply to the line that comes in, where it ends here
+abbrev pub reply : (ℕ → ℕ → List ℕ → Reply) → Coming → List ℕ
+reply coding line = replyLine (line .number) (lineSaid coding (take (line .len) (line .room)))
+
+-- the replies to the lines that end in bytes
+unfoldable pub ended : (ℕ → ℕ → List ℕ → Reply) → Coming → List ℕ → List ℕ
+ended coding line [] = []
+ended coding line (b ∷ bytes) = cond (eqb b (code "\n")) (reply coding line ++ ended coding (next line) bytes) (ended coding (more b line) bytes)
+
+-- "A last line needs no line feed, and none starts after a line feed that ends the input": the reply at the end of the input
+unfoldable pub last : (ℕ → ℕ → List ℕ → Reply) → Coming → List ℕ
+last coding line = cond (eqb (line .len) 0) [] (reply coding line)
+
+-- the bytes of several reads, one after the other
+unfoldable pub together : List (List ℕ) → List ℕ
+together [] = []
+together (bytes ∷ reads) = bytes ++ together reads
+
+-- the replies to an input that comes in several reads
+unfoldable pub listed : (ℕ → ℕ → List ℕ → Reply) → Coming → List (List ℕ) → List ℕ
+listed coding line [] = last coding line
+listed coding line (bytes ∷ reads) = ended coding line bytes ++ listed coding (after line bytes) reads

@@ -1,0 +1,61 @@
+// The listing program of document 01: a unit a line on standard input, a reply a line on standard
+// output.
+//
+// What is written is decided in `register`; here bytes only come in and go out. The replies of a read
+// are written before the next read, in one piece. A read or a write that fails ends the program, which
+// says so on standard error.
+ghost use Prim.Native.Nat.{_≤_};
+ghost use lib.ListN.{length};
+use libc::STDIN_FILENO;
+use libc::STDOUT_FILENO;
+use register::Line;
+
+// The most bytes of one read.
+const READ: usize = 32768;
+
+// Room for a reply to each byte of a read, which may all be line feeds.
+const WRITTEN: usize = READ * register::REPLY;
+
+fn main() {
+    let mut input = [0u8; READ];
+    let mut room = [0u8; register::ROOM];
+    let mut output = [0u8; WRITTEN];
+    list(&mut input, &mut room, &mut output);
+}
+
+// Reads until the input ends. Nothing says that it does, so the reads count down, from a number that
+// no run uses up.
+fn list(input: &mut [u8], room: &mut [u8], output: &mut [u8]) {
+    let mut line = Line { number: 1, len: 0 };
+    let mut reads = u64::MAX;
+    while reads > 0 {
+        let got = libc::read(STDIN_FILENO, input);
+        if got < 0 {
+            os::fail(b"listing: standard input");
+            return;
+        }
+        let n = io::count(got, input);
+        if n == 0 {
+            let put = register::reply_last(line, room, output);
+            write_out(output, put);
+            return;
+        }
+        let listed = register::reply_all(line, &input[..n], room, output);
+        if !write_out(output, listed.put) {
+            return;
+        }
+        line = listed.line;
+        reads -= 1;
+    }
+}
+
+// Writes the first bytes of the output, or says that it cannot.
+fn write_out(output: &[u8], count: usize) -> bool
+    requires { ⌜ count ≤ length (now output) ⌝ }
+{
+    let sound = io::write_all(STDOUT_FILENO, &output[..count]);
+    if !sound {
+        os::fail(b"listing: standard output");
+    }
+    sound
+}

@@ -1,0 +1,31 @@
+-- Document 01, "The listing program": what the program says of a unit, which is what coding says of it in a room of twenty bytes.
+-- Assumes nothing.
+use Prim.Native.Nat.{ℕ}
+use Prim.Native.Char.{code}
+use mathlib.Core.Bool.{cond}
+use mathlib.Core.List.{List}
+use lib.ListN.{replicate}
+use lib.Dec.{eqb}
+use Rattle.replies.specs.Replies.{Outcome}
+use Rattle.unit.specs.declared.Kind.{Kind}
+use Rattle.unit.specs.declared.Kind.the-variants.{Building, Other}
+use Rattle.unit.specs.Unit.{coding}
+use Rattle.lines.specs.Lines.{Reply, coded, refused}
+use Rattle.lines.specs.Automaton.{Coming}
+use Rattle.register.specs.declared.Line.{Line}
+
+-- "`B` or `F` (building, other)"
+unfoldable pub kindOf : ℕ → Kind
+kindOf letter = cond (eqb letter (code "B")) Building Other
+
+-- "then the code or `refused`, number and place"
+abbrev pub replyOf : Outcome → Reply
+replyOf left = cond (eqb (left .said .number) 0) (coded (left .room)) (refused (left .said .number) (left .said .place))
+
+-- what is said of a unit by the letter of its kind, its number and its coordinates
+unfoldable pub codeSaid : ℕ → ℕ → List ℕ → Reply
+codeSaid letter number coordinates = replyOf (coding (replicate 20 0) coordinates (kindOf letter) number)
+
+-- the line that comes in, with the room that its bytes stand in
+abbrev pub coming : Line → List ℕ → Coming
+coming line room = record { number = line .number; len = line .len; room = room }
