@@ -1,30 +1,43 @@
-//! The fixed list of units: the document's coding cases and every coding
-//! refusal at its border, as listing lines or as requests for both roads.
+//! The fixed list of units: the document's listing example and coding cases and
+//! every refusal at its border, as listing lines; the units of the listing's
+//! form also as requests for both roads.
 
 use std::io::{self, Write};
 
 use crate::borders::print_lines;
+use crate::cases::LISTING_INPUT;
 use crate::grid::{Cell, Point, DEGREE, LAT_END, LON_END, MINUTE, SECOND};
 use crate::lines::LINE_MAX;
 use crate::units::{coordinates_of, line_of};
 
-/// Lines of another form than the listing's.
-const MALFORMED: [&[u8]; 32] = [
+/// Lines of another form than the listing's, each wrong in its own way.
+const MALFORMED: [&[u8]; 71] = [
     b"",
     b" ",
+    b"  ",
     b"B",
     b"F",
     b"B ",
     b"F ",
     b"0",
+    b"0 0",
     b"b 1",
     b"f 0",
     b"X 0",
     b"BF 0",
+    b"BB 1",
+    b"B1",
+    b"F0",
     b"\0",
     b"\r",
+    b"\t",
+    b"\x7f",
+    b"\x80",
+    b"\xff",
     b"F\t0",
+    b"F\r",
     b"F 0\r",
+    b"F 0\t",
     b"F 0 ",
     b" F 0",
     b"F  0",
@@ -33,23 +46,56 @@ const MALFORMED: [&[u8]; 32] = [
     b"F -0",
     b"F +0",
     b"F 0.0",
+    b"F 0x0",
+    b"F 1e3",
+    b"F a",
+    b"F \0",
+    b"F 0\0",
+    b"F \xb2",
     b"F 4294967296",
+    b"F 4294967300",
     b"F 9999999999",
     b"F 10000000000",
+    b"F 04294967295",
+    b"F 00000000000",
+    b"B 18446744073709551617",
+    b"B 340282366920938463463374607431768211457",
     b"F 0 0 0 0 960 32 960 32 0 ",
+    b"F 0 0 0 0 960 32 960 32 0\r",
+    b"F 0 0 0 0 960 32 960 32 0\t",
     b"F 0 0 0 0 960 32 960 32 0\0",
     b"F 0 0 0 0 960 32 960 32 0x",
+    b"F 0 0 0 0 960 32 960 32 0\xff",
+    b"F 0 0 0 0 960 32 960 32 0\xc2\xa0",
+    b"\xef\xbb\xbfF 0 0 0 0 960 32 960 32 0",
     b"F 0 0 0  0 960 32 960 32 0",
+    b"F 0 0 0\t0 960 32 960 32 0",
+    b"F 0 0 0\x000 960 32 960 32 0",
+    b"F 0 0 0,0 960 32 960 32 0",
     b"F 0 0 0 0 960 032 960 32 0",
+    b"F 0 0 0 0 960 32 960 32 00",
+    b"F 0 0 0 0 960 32 -960 32 0",
+    b"F 0 0 0 0 960 32 960.0 32 0",
     b"F 0 0 0 0 960 32 4294967296 32 0",
+    b"F 0 0 0 0 960 32 9999999999 32 0",
+    b"F 0 0 0 0 960 32 10000000000 32 0",
+    b"F 0 0 0 0 960 32 00000000960 32 0",
+    b"F 0 0 0 0 960 32 18446744073709552576 32 0",
+    b"f 0 0 0 0 960 32 960 32 0",
+    b"b 1 0 0 0 960 32 960 32 0",
 ];
 
 type Lines = Vec<Vec<u8>>;
 
-/// Prints the units as listing lines, then lines that are refused 9 or 10.
+/// Prints the example and the units as listing lines, then lines that are
+/// refused 9 or 10.
 pub fn border_units(output: &mut impl Write) -> io::Result<()> {
+    let example: Lines = LISTING_INPUT.lines().map(|line| line.into()).collect();
     let last = line_of('B', 1, &square(0, 0, 32));
-    print_lines(&[well_formed(), malformed(), long(), vec![last]].concat(), output)
+    print_lines(
+        &[example, well_formed(), words(), malformed(), long(), vec![last]].concat(),
+        output,
+    )
 }
 
 /// Prints the same units as requests, each for both roads.
@@ -316,21 +362,38 @@ fn choices() -> Lines {
     ])
 }
 
+/// The listing's form at its borders, where coding decides: no coordinates and
+/// numbers of ten digits.
+fn words() -> Lines {
+    let most = i64::from(u32::MAX);
+    let mut lines: Lines = [1, 1_000_000_000, most].map(|number| line_of('B', number, &[])).into();
+    lines.push(line_of('F', most, &[most]));
+    lines.push(line_of('F', 0, &[0, 0, 0, 960, 32, most, 32, 0]));
+    lines.push(line_of('F', 0, &[0, 0, 0, 960, 32, 1_000_000_000, 32, 0]));
+    lines.push(line_of('F', 0, &[most; 2_048]));
+    lines.push(line_of('B', 1, &[most; 2_049]));
+    lines
+}
+
 /// Refusal 9.
 fn malformed() -> Lines {
     MALFORMED.iter().map(|line| line.to_vec()).collect()
 }
 
-/// The longest lines: 12,286 coordinates, and both sides of 24,576 bytes.
+/// The longest lines: 12,286 coordinates, both sides of 24,576 bytes in good
+/// and bad words, and far more.
 fn long() -> Lines {
-    let zeros = |count: usize| [b"F 0".as_slice(), &b" 0".repeat(count)].concat();
-    let all = zeros(12_286);
-    let odd = zeros(12_285);
-    let bad = [zeros(12_285).as_slice(), b" x"].concat();
-    let whole = [zeros(12_285).as_slice(), b" 10"].concat();
-    let past = [zeros(12_285).as_slice(), b" 100"].concat();
-    let mut no_words = vec![b'x'; LINE_MAX];
-    let lines = vec![all, odd, bad, whole, past, no_words.clone()];
-    no_words.push(b'x');
-    [lines, vec![no_words]].concat()
+    let zeros = |count: usize, end: &[u8]| [b"F 0", b" 0".repeat(count).as_slice(), end].concat();
+    let ends: [&[u8]; 10] =
+        [b"", b" 0", b" x", b" 10", b"  0", b" 0\r", b" 0 ", b" 100", b" 0\r\r", b"\0\0\0"];
+    let mut lines: Lines = ends.iter().map(|end| zeros(12_285, end)).collect();
+    for (byte, length) in
+        [(b'x', LINE_MAX), (b'x', LINE_MAX + 1), (b'0', LINE_MAX), (b'\0', LINE_MAX)]
+    {
+        lines.push(vec![byte; length]);
+    }
+    // Past the border a line is refused 10 whatever it holds.
+    lines.push(zeros(50_000, b""));
+    lines.push(vec![0xff; 100_000]);
+    lines
 }

@@ -8,7 +8,7 @@ use crate::lines::{self, unit_of, words};
 use crate::trials;
 use crate::unit::{self, scale, Road};
 
-const LISTING_INPUT: &str =
+pub const LISTING_INPUT: &str =
     "F 0 0 0 0 960 32 960 32 0\nF 0 0 0 0 961 32 961 32 0\n\nB 0 0 0 0 960 32 960 32 0\n";
 const LISTING_OUTPUT: &str =
     "1 00000000001UY1120000\n2 refused 8 0\n3 refused 9 0\n4 refused 6 0\n";

@@ -6,13 +6,14 @@ use std::io::{self, Write};
 
 use crate::borderedges::border_edges;
 use crate::borders::borders;
-use crate::borderunits::border_roads;
+use crate::borderunits::{border_roads, border_units};
 use crate::boundary::{cell_inside, counts, edges, meets, Edge, Extent};
 use crate::cases::cases;
 use crate::changes::pair;
 use crate::code::{self, letter_value, LENGTH, LETTERS};
 use crate::grid::{size, stretches, Cell, Point, Stretch, COARSEST, DEGREE, FINEST, MINUTE, STEP};
 use crate::grid::{LAT_END, LON_END};
+use crate::lines::listing;
 use crate::questions::Question;
 use crate::quick;
 use crate::random::Random;
@@ -43,7 +44,7 @@ pub fn agree(seed: u64, count: u64, output: &mut impl Write) -> io::Result<bool>
 pub fn selftest(output: &mut impl Write) -> io::Result<bool> {
     let mut good = cases(output)?;
     good &= agree(1, 2_000, output)?;
-    let tests: [(&str, fn() -> bool); 13] = [
+    let tests: [(&str, fn() -> bool); 14] = [
         ("letters", letters_good),
         ("grid", grid_good),
         ("meeting", meeting_good),
@@ -52,6 +53,7 @@ pub fn selftest(output: &mut impl Write) -> io::Result<bool> {
         ("changes of the same ground", changes_good),
         ("borders of reading and writing", borders_good),
         ("borders of coding by both roads", roads_good),
+        ("borders of the listing", listing_good),
         ("odd counts to the east and to the west", odd_good),
         ("sides where cells start", sides_good),
         ("inside and the plain search", inside_good),
@@ -212,6 +214,19 @@ fn roads_good() -> bool {
     let answers = answers(border_roads);
     let all: Vec<&str> = answers.lines().collect();
     meet(&answers, "0 1 2 3 4 5 6 7 8") && all.chunks(2).all(|two| two[0] == two[two.len() - 1])
+}
+
+/// The fixed lines meet every number of the listing several times, and each
+/// reply has its line's number.
+fn listing_good() -> bool {
+    let (mut lines, mut replies) = (Vec::new(), Vec::new());
+    // Writing into a Vec does not fail.
+    let _ = border_units(&mut lines).and_then(|()| listing(lines.as_slice(), &mut replies));
+    let replies = String::from_utf8_lossy(&replies).into_owned();
+    let numbered = replies.lines().zip(1..).all(|(reply, n)| reply.starts_with(&format!("{n} ")));
+    let refused = |number: u8| replies.matches(&format!(" refused {number} ")).count();
+    let codes = replies.lines().filter(|reply| !reply.contains("refused")).count();
+    numbered && codes > 100 && (2..=10).all(|number| refused(number) >= 5) && refused(9) > 70
 }
 
 /// A boundary is closed, so an even count of edges crosses a latitude: those

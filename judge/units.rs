@@ -13,10 +13,10 @@ use crate::shapes;
 /// Short lines of another form than the listing's.
 const SHORT: [&[u8]; 9] = [b"B", b"F", b"B ", b"F ", b" ", b"b 1", b"X 0", b"BF 0", b"0 0"];
 
-/// Prints `count` listing lines.
+/// Prints `count` listing lines; the last has no line feed if the seed is odd.
 pub fn units(seed: u64, count: u64, output: &mut impl Write) -> io::Result<()> {
     let mut random = Random::new(seed);
-    for _ in 0..count {
+    for place in 0..count {
         let line = match random.below(500) {
             0 => long(&mut random),
             1..=75 => malformed(&mut random),
@@ -24,7 +24,9 @@ pub fn units(seed: u64, count: u64, output: &mut impl Write) -> io::Result<()> {
             _ => well_formed(&mut random),
         };
         output.write_all(&line)?;
-        output.write_all(b"\n")?;
+        if seed % 2 == 0 || place + 1 < count {
+            output.write_all(b"\n")?;
+        }
     }
     output.flush()
 }
@@ -146,10 +148,15 @@ fn malformed(random: &mut Random) -> Vec<u8> {
     }
 }
 
-/// A line about as long as a line may be, or far longer.
+/// A line about as long as a line may be, or far longer, good or broken.
 fn long(random: &mut Random) -> Vec<u8> {
-    let length = random.pick(&[LINE_MAX - 1, LINE_MAX, LINE_MAX + 1, LINE_MAX + 1, 2 * LINE_MAX]);
-    filled(well_formed(random), length)
+    let lengths = [LINE_MAX - 1, LINE_MAX, LINE_MAX + 1, LINE_MAX + 1, 2 * LINE_MAX, 100_000];
+    let length = random.pick(&lengths);
+    let line = filled(well_formed(random), length);
+    if random.one_in(3) {
+        return broken(random, &line);
+    }
+    line
 }
 
 /// A line of this form with more coordinates, so that it has so many bytes.
