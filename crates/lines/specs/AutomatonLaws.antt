@@ -226,13 +226,14 @@ Short coding = (kind number : ℕ) (coordinates : List ℕ) → length (saying (
 -- a refusal
 pub refusal-short : (number place : ℕ) → length (saying (refused number place)) ≤ 49
 refusal-short number place =
-    omega
-    (arith,
-    length-append (bytes "refused " ++ decimal number ++ bytes " ") (decimal place),
-    length-append (bytes "refused " ++ decimal number) (bytes " "),
-    length-append (bytes "refused ") (decimal number),
-    spelling-short 20 number,
-    spelling-short 20 place)
+    omega (
+      arith,
+      length-append (bytes "refused " ++ decimal number ++ bytes " ") (decimal place),
+      length-append (bytes "refused " ++ decimal number) (bytes " "),
+      length-append (bytes "refused ") (decimal number),
+      spelling-short 20 number,
+      spelling-short 20 place,
+    )
 
 module _ (coding : ℕ → ℕ → List ℕ → Reply) (short : Short coding) where
   said-short : (line : List ℕ) → length (saying (lineSaid coding line)) ≤ 49
@@ -248,13 +249,14 @@ module _ (coding : ℕ → ℕ → List ℕ → Reply) (short : Short coding) wh
   unfolding replyLine
   reply-short line =
       let said : Reply = lineSaid coding (take (line .len) (line .room)) in
-      omega
-      (arith,
-      length-append (decimal (line .number) ++ bytes " " ++ saying said) (bytes "\n"),
-      length-append (decimal (line .number) ++ bytes " ") (saying said),
-      length-append (decimal (line .number)) (bytes " "),
-      spelling-short 20 (line .number),
-      said-short (take (line .len) (line .room)))
+      omega (
+        arith,
+        length-append (decimal (line .number) ++ bytes " " ++ saying said) (bytes "\n"),
+        length-append (decimal (line .number) ++ bytes " ") (saying said),
+        length-append (decimal (line .number)) (bytes " "),
+        spelling-short 20 (line .number),
+        said-short (take (line .len) (line .room)),
+      )
 
   pub ended-short : (line : Coming) (bytes : List ℕ) → length (ended coding line bytes) ≤ length bytes * 71
   unfolding ended

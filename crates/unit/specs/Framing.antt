@@ -58,11 +58,12 @@ coding-fits room numbers kind number h =
     at true Nowhere = omega (arith, length-drop 20 room)
     at true (At c) =
         let code : List ℕ = codeOf (fieldsOf (extremesOf (cornersOf numbers)) number c) in
-        omega
-        (arith,
-        length-append code (drop 20 room),
-        length-drop 20 room,
-        code-twenty (fieldsOf (extremesOf (cornersOf numbers)) number c))
+        omega (
+          arith,
+          length-append code (drop 20 room),
+          length-drop 20 room,
+          code-twenty (fieldsOf (extremesOf (cornersOf numbers)) number c),
+        )
 
 -- Good fields have no span above 31
 good-spans : (f : Fields) → Good f → above31 f ≡ false

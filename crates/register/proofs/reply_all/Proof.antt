@@ -46,21 +46,21 @@ loop-again c =
       search needs,
       search needs,
       replying-step
-      codeSaid
-      (coming (asked .line) (asked .room .now))
-      (asked .bytes .now)
-      (asked .out .now)
-      (coming (here .listed .line) (here .room))
-      (here .out)
-      (here .listed .put)
-      (here .i)
-      (here .inv .3)
-      (coming (took .result .line) (took .last .1 .1 .0))
-      (took .result .put)
-      (took .last .1 .1 .1 .1 .0)
-      (search needs)
-      (took .ensures .0)
-      (took .ensures .1),
+          codeSaid
+          (coming (asked .line) (asked .room .now))
+          (asked .bytes .now)
+          (asked .out .now)
+          (coming (here .listed .line) (here .room))
+          (here .out)
+          (here .listed .put)
+          (here .i)
+          (here .inv .3)
+          (coming (took .result .line) (took .last .1 .1 .0))
+          (took .result .put)
+          (took .last .1 .1 .1 .1 .0)
+          (search needs)
+          (took .ensures .0)
+          (took .ensures .1),
     )
 
 same-length : tie.Need-same-length Inv-loop μ-loop
