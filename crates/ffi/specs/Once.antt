@@ -1,6 +1,6 @@
 -- No second reply satisfies the promise of coding, writing or reading: each reply is found back from what it says. Assumes nothing.
 use Prim.Native.Nat.{ℕ}
-use mathlib.Core.Path.{_≡_, refl, ap, _∙_, sym}
+use mathlib.Core.Path.{_≡_, ap, _∙_, sym}
 use mathlib.Core.List.{List}
 use Rattle.replies.specs.Replies.{Said, Outcome}
 use Rattle.ground.specs.declared.Rectangle as ground

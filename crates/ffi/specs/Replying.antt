@@ -3,9 +3,8 @@ use Prim.Native.Nat.{ℕ}
 use mathlib.Core.Path.{_≡_, refl, ap, ap₂, _∙_, sym}
 use mathlib.Core.Bool.{Bool, cond}
 use mathlib.Core.List.{List}
-use lib.Dec.{eqb}
 use borrow.Author.Tests.{eq-eqb, ne-eqb}
-use Rattle.replies.specs.Replies.{Said, refused, accepted, Outcome}
+use Rattle.replies.specs.Replies.{Said, refused, Outcome}
 use Rattle.ground.specs.declared.Rectangle as ground
 use Rattle.code.specs.declared.Fields as code
 use Rattle.code.specs.declared.Written.{Written}
@@ -21,7 +20,6 @@ use Rattle.unit.specs.Unit.{coding}
 use Rattle.ffi.specs.declared.Reply.{Reply}
 use Rattle.ffi.specs.declared.Kind.{Kind}
 use Rattle.ffi.specs.declared.Fields.{Fields}
-use Rattle.ffi.specs.declared.Rectangle.{Rectangle}
 use Rattle.ffi.specs.declared.Reading.{Reading}
 use Rattle.ffi.specs.Replies.{kindOf, said, sides, fieldsOf, leaves, tells}
 
