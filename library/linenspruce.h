@@ -37,9 +37,9 @@
  * where none is named the place is 0. Acceptance of coding and of writing writes bytes 0 to 19 of the
  * room and no others. A refusal writes nothing. There is no byte 0 after a code.
  *
- * Pointers: a pointer and the length after it name that many elements of the caller's memory, which
- * no other thread writes meanwhile; a room lies apart from the numbers. Where the length is 0 the
- * pointer is not followed, and NULL will do.
+ * Pointers: a pointer and the length after it name that many elements of the caller's memory, aligned
+ * as their type is, which nothing else writes meanwhile; a room lies apart from the numbers. Where the
+ * length is 0 the pointer is not followed, and NULL will do.
  *
  * Angles are whole numbers of 1/2048 arc second, north latitude and east longitude. */
 #ifndef LINENSPRUCE_H

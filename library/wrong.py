@@ -1,9 +1,12 @@
-"""Calls that are wrong in their types, and those that only C's types let through. Each of the first is
-a TypeError or a ValueError, and the room stays as it was; the second have their defined replies."""
+"""Calls that are wrong in their types, those that only C's types let through, and very long ones. Each of
+the first is a TypeError or a ValueError, and the room stays as it was; the others have their defined
+replies."""
 import linenspruce
 from linenspruce import Fields, Kind, Reply, code_plain, code_quick, read, write
 
 SQUARE = [294250496, 857567232, 294250496, 857569280, 294252544, 857569280, 294252544, 857567232]
+CASE_1 = b"0W7ARCTDHYYRA99A0001"
+LONG = 100000
 GOOD = Fields(294251488, 857568224, 25, 10, 9, 9, 10, 1)
 
 NO_NUMBER = [(None, TypeError), (1.0, TypeError), ("1", TypeError), (True, TypeError), (-1, ValueError), (1 << 32, ValueError)]
@@ -76,6 +79,23 @@ def no_pointer(library):
     tried += 6
 
 
+def long_ones(road):
+    """More numbers than a unit has, a long text and long rooms."""
+    global tried
+    room = bytearray(b"." * LONG)
+    assert road(room, [0] * 2050, Kind.OTHER, 0) == (3, 0)
+    assert road(room, [0] * LONG, Kind.OTHER, 0) == (3, 0)
+    assert road(room, [0] * (LONG + 1), Kind.OTHER, 0) == (2, 0)
+    assert read(room).reply == (11, 0)
+    assert room == b"." * LONG
+    assert road(room, SQUARE, Kind.BUILDING, 1) == (0, 0)
+    assert room == CASE_1 + b"." * (LONG - 20)
+    room[:20] = b"." * 20
+    assert write(room, GOOD) == (0, 0)
+    assert room == CASE_1 + b"." * (LONG - 20)
+    tried += 6
+
+
 wrong_coding(code_quick)
 wrong_coding(code_plain)
 wrong_writing()
@@ -84,7 +104,9 @@ for other_text in NO_TEXT:
 refuses(OSError, None, linenspruce.load, "no/such/library.so")
 # What was loaded before is still there.
 right = bytearray(20)
-assert code_quick(right, tuple(SQUARE), Kind.BUILDING, 1) == Reply(0, 0) and right == b"0W7ARCTDHYYRA99A0001"
+assert code_quick(right, tuple(SQUARE), Kind.BUILDING, 1) == Reply(0, 0) and right == CASE_1
 every_letter(linenspruce.load())
 no_pointer(linenspruce.load())
-print("%d wrong calls have their answers" % tried)
+long_ones(code_quick)
+long_ones(code_plain)
+print("library: %d wrong and long calls have their answers" % tried)
