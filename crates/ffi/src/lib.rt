@@ -1,6 +1,7 @@
 // The library for other languages: coding by either road, reading and writing under C's names. Each
 // function hands its input to the crate that does the work and says the reply in numbers. The
-// definitions are in specs/: the replies in Replies.antt, that no second reply would do in Once.antt.
+// definitions are in specs/: the replies in Replies.antt, their laws in Replying.antt, and in Once.antt
+// that no second reply would do.
 ghost use mathlib.Core.Path.{_≡_};
 ghost use Rattle.code.specs.Code.{reading, writing, tells as Code·tells, tellsNothing};
 ghost use Rattle.unit.specs.Unit.{coding};
