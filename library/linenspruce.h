@@ -105,7 +105,7 @@ struct linenspruce_reply linenspruce_code_quick(
     struct linenspruce_kind kind, uint32_t number);
 
 /* The same answer by the plain road, which tries the cells of each level in turn. It is for
- * comparison on small units: with a large thin one it takes hours. Replies 0 to 8. */
+ * comparison on small units: with a large thin one it takes very long. Replies 0 to 8. */
 struct linenspruce_reply linenspruce_code_plain(
     uint8_t *room, size_t room_length,
     const uint32_t *numbers, size_t numbers_count,

@@ -149,7 +149,7 @@ def code_quick(room, numbers, kind, number):
 
 def code_plain(room, numbers, kind, number):
     """The same answer by the plain road. It is for comparison on small units: with a large thin one
-    it takes hours."""
+    it takes very long."""
     return _code(_loaded().linenspruce_code_plain, room, numbers, kind, number)
 
 

@@ -107,7 +107,7 @@ pub fn code_quick(room: &mut [u8], numbers: &[u32], kind: Kind, number: u32) -> 
 }
 
 /// The same answer by the plain road. It is for comparison on small units: with a large thin one it
-/// takes hours.
+/// takes very long.
 pub fn code_plain(room: &mut [u8], numbers: &[u32], kind: Kind, number: u32) -> Reply {
     let kind = kind.letter();
     unsafe {
