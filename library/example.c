@@ -1,0 +1,72 @@
+/* The library from C: document 01's case 1 by both roads, its code read and written again, and
+ * refusals. It prints the lines of example.out, as example.py and example.rs do. */
+#include <stdio.h>
+#include <string.h>
+
+#include "linenspruce.h"
+
+/* The square of case 1, a building with unit number 1: latitude, longitude, latitude, .. */
+static const uint32_t square[] = {
+    294250496, 857567232, 294250496, 857569280, 294252544, 857569280, 294252544, 857567232,
+};
+#define NUMBERS (sizeof square / sizeof *square)
+
+/* A triangle whose third corner lies beyond 180 degrees. */
+static const uint32_t beyond[] = {0, 0, 0, 960, 32, 1327104001};
+
+/* A room that is longer than a code, so that it is seen what stays as it was. */
+static uint8_t room[22];
+
+static uint8_t *dots(void) { return memset(room, '.', sizeof room); }
+
+static void show(const char *what, struct linenspruce_reply r, size_t length) {
+    printf("%s %u %u [%.*s]\n", what, (unsigned)r.number, (unsigned)r.place, (int)length, (const char *)room);
+}
+
+static void show_reading(struct linenspruce_reading t) {
+    const struct linenspruce_fields f = t.fields;
+    const struct linenspruce_rectangle r = t.rectangle;
+    printf("read %u %u", (unsigned)t.reply.number, (unsigned)t.reply.place);
+    printf(" lat %u lon %u scale %u", (unsigned)f.lat, (unsigned)f.lon, (unsigned)f.scale);
+    printf(" east %u west %u south %u north %u", (unsigned)f.east, (unsigned)f.west, (unsigned)f.south, (unsigned)f.north);
+    printf(" number %u", (unsigned)f.number);
+    printf(" from west %u to east %u", (unsigned)r.west, (unsigned)r.east);
+    printf(" from south %u to north %u\n", (unsigned)r.south, (unsigned)r.north);
+}
+
+static void accepted(void) {
+    uint8_t code[LINENSPRUCE_CODE];
+    show("code_quick", linenspruce_code_quick(dots(), 22, square, NUMBERS, linenspruce_building, 1), 22);
+    show("code_plain", linenspruce_code_plain(dots(), 22, square, NUMBERS, linenspruce_building, 1), 22);
+    memcpy(code, room, LINENSPRUCE_CODE);
+    struct linenspruce_reading told = linenspruce_read(code, LINENSPRUCE_CODE);
+    show_reading(told);
+    show("write", linenspruce_write(dots(), 22, told.fields), 22);
+}
+
+static void refused_coding(void) {
+    show("code_quick", linenspruce_code_quick(dots(), 22, NULL, 0, linenspruce_building, 1), 22);
+    show("code_plain", linenspruce_code_plain(dots(), 22, NULL, 0, linenspruce_building, 1), 22);
+    show("code_quick", linenspruce_code_quick(dots(), 19, square, NUMBERS, linenspruce_building, 1), 19);
+    show("code_plain", linenspruce_code_plain(NULL, 0, square, NUMBERS, linenspruce_building, 1), 0);
+    show("code_quick", linenspruce_code_quick(dots(), 22, square, NUMBERS - 1, linenspruce_building, 1), 22);
+    show("code_quick", linenspruce_code_quick(dots(), 22, beyond, 6, linenspruce_other, 0), 22);
+    show("code_quick", linenspruce_code_quick(dots(), 22, square, NUMBERS, linenspruce_other, 1), 22);
+}
+
+static void refused_reading_and_writing(void) {
+    struct linenspruce_fields fields = linenspruce_read((const uint8_t *)"0W7ARCTDHYYRA99A0001", 20).fields;
+    show_reading(linenspruce_read((const uint8_t *)"00000000001UY112000O", 20));
+    show_reading(linenspruce_read(NULL, 0));
+    show("write", linenspruce_write(dots(), 19, fields), 19);
+    show("write", linenspruce_write(NULL, 0, fields), 0);
+    fields.number = 1048576;
+    show("write", linenspruce_write(dots(), 22, fields), 22);
+}
+
+int main(void) {
+    accepted();
+    refused_coding();
+    refused_reading_and_writing();
+    return 0;
+}

@@ -1,0 +1,78 @@
+//! The library from Rust: document 01's case 1 by both roads, its code read and written again, and
+//! refusals. It prints the lines of example.out, as example.c and example.py do.
+mod linenspruce;
+
+use linenspruce::{code_plain, code_quick, read, write, Fields, Kind, Reading, Reply, CODE};
+
+/// The square of case 1, a building with unit number 1: latitude, longitude, latitude, ..
+const SQUARE: [u32; 8] = [
+    294250496, 857567232, 294250496, 857569280, 294252544, 857569280, 294252544, 857567232,
+];
+
+/// A triangle whose third corner lies beyond 180 degrees.
+const BEYOND: [u32; 6] = [0, 0, 0, 960, 32, 1327104001];
+
+/// A room. That of 22 is longer than a code, so that it is seen what stays as it was.
+fn dots(length: usize) -> Vec<u8> {
+    vec![b'.'; length]
+}
+
+fn show(what: &str, reply: Reply, room: &[u8]) {
+    println!("{what} {} {} [{}]", reply.number, reply.place, String::from_utf8_lossy(room));
+}
+
+fn show_quick(length: usize, numbers: &[u32], kind: Kind, number: u32) {
+    let mut room = dots(length);
+    show("code_quick", code_quick(&mut room, numbers, kind, number), &room);
+}
+
+fn show_plain(length: usize, numbers: &[u32], kind: Kind, number: u32) -> Vec<u8> {
+    let mut room = dots(length);
+    show("code_plain", code_plain(&mut room, numbers, kind, number), &room);
+    room
+}
+
+fn show_write(length: usize, fields: Fields) {
+    let mut room = dots(length);
+    show("write", write(&mut room, fields), &room);
+}
+
+fn show_reading(told: Reading) {
+    let Reading { reply, fields: f, rectangle: r } = told;
+    print!("read {} {} lat {} lon {} scale {} ", reply.number, reply.place, f.lat, f.lon, f.scale);
+    print!("east {} west {} south {} north {} number {} ", f.east, f.west, f.south, f.north, f.number);
+    println!("from west {} to east {} from south {} to north {}", r.west, r.east, r.south, r.north);
+}
+
+fn accepted() {
+    show_quick(22, &SQUARE, Kind::Building, 1);
+    let room = show_plain(22, &SQUARE, Kind::Building, 1);
+    let told = read(&room[..CODE]);
+    show_reading(told);
+    show_write(22, told.fields);
+}
+
+fn refused_coding() {
+    show_quick(22, &[], Kind::Building, 1);
+    show_plain(22, &[], Kind::Building, 1);
+    show_quick(19, &SQUARE, Kind::Building, 1);
+    show_plain(0, &SQUARE, Kind::Building, 1);
+    show_quick(22, &SQUARE[..7], Kind::Building, 1);
+    show_quick(22, &BEYOND, Kind::Other, 0);
+    show_quick(22, &SQUARE, Kind::Other, 1);
+}
+
+fn refused_reading_and_writing() {
+    let fields = read(b"0W7ARCTDHYYRA99A0001").fields;
+    show_reading(read(b"00000000001UY112000O"));
+    show_reading(read(b""));
+    show_write(19, fields);
+    show_write(0, fields);
+    show_write(22, Fields { number: 1048576, ..fields });
+}
+
+fn main() {
+    accepted();
+    refused_coding();
+    refused_reading_and_writing();
+}

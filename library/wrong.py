@@ -1,0 +1,112 @@
+"""Calls that are wrong in their types, those that only C's types let through, and very long ones. Each of
+the first is a TypeError or a ValueError, and the room stays as it was; the others have their defined
+replies."""
+import linenspruce
+from linenspruce import Fields, Kind, Reply, code_plain, code_quick, read, write
+
+SQUARE = [294250496, 857567232, 294250496, 857569280, 294252544, 857569280, 294252544, 857567232]
+CASE_1 = b"0W7ARCTDHYYRA99A0001"
+LONG = 100000
+GOOD = Fields(294251488, 857568224, 25, 10, 9, 9, 10, 1)
+
+NO_NUMBER = [(None, TypeError), (1.0, TypeError), ("1", TypeError), (True, TypeError), (-1, ValueError), (1 << 32, ValueError)]
+NO_NUMBERS = [None, 7, "12345678", b"12345678", {1: 2}, {1, 2}, [[1, 2]], SQUARE + [None]]
+NO_ROOM = [None, 20, b"." * 20, "." * 20, [0] * 20, memoryview(bytearray(20))]
+NO_KIND = [None, "B", b"B", 66, True]
+NO_TEXT = [None, 20, "0W7ARCTDHYYRA99A0001", [48] * 20]
+NO_FIELDS = [None, tuple(GOOD), list(GOOD), GOOD._asdict()]
+
+tried = 0
+
+
+def refuses(error, room, call, *words):
+    """The call raises that error, and the room is as it was."""
+    global tried
+    tried += 1
+    before = bytes(room) if isinstance(room, bytearray) else None
+    try:
+        call(*words)
+    except error:
+        assert before is None or bytes(room) == before
+        return
+    raise AssertionError("%s%r is not a %s" % (call.__name__, words, error.__name__))
+
+
+def wrong_coding(road):
+    room = bytearray(b"." * 22)
+    for value, error in NO_NUMBER:
+        refuses(error, room, road, room, SQUARE, Kind.BUILDING, value)
+        refuses(error, room, road, room, SQUARE[:5] + [value] + SQUARE[6:], Kind.BUILDING, 1)
+    for numbers in NO_NUMBERS:
+        refuses(TypeError, room, road, room, numbers, Kind.BUILDING, 1)
+    for other in NO_ROOM:
+        refuses(TypeError, other, road, other, SQUARE, Kind.BUILDING, 1)
+    for kind in NO_KIND:
+        refuses(TypeError, room, road, room, SQUARE, kind, 1)
+
+
+def wrong_writing():
+    room = bytearray(b"." * 22)
+    for value, error in NO_NUMBER:
+        for name in Fields._fields:
+            refuses(error, room, write, room, GOOD._replace(**{name: value}))
+    for other in NO_ROOM:
+        refuses(TypeError, other, write, other, GOOD)
+    for fields in NO_FIELDS:
+        refuses(TypeError, room, write, room, fields)
+
+
+def every_letter(library):
+    """`B` is a building, and every other byte is other kind: with unit number 1 that is refused 6."""
+    global tried
+    for road in (library.linenspruce_code_quick, library.linenspruce_code_plain):
+        for letter in range(256):
+            room, numbers = linenspruce._room(bytearray(20)), linenspruce._numbers(SQUARE)
+            reply = road(room, 20, numbers, 8, linenspruce._Kind(letter), 1)
+            assert reply.number == (0 if letter == ord("B") else 6), letter
+            tried += 1
+
+
+def no_pointer(library):
+    """A null pointer with length 0."""
+    global tried
+    building = linenspruce._Kind(ord("B"))
+    for road in (library.linenspruce_code_quick, library.linenspruce_code_plain):
+        assert road(None, 0, None, 0, building, 1).number == 1
+        assert road(linenspruce._room(bytearray(20)), 20, None, 0, building, 1).number == 3
+    assert library.linenspruce_read(None, 0).reply.number == 11
+    assert library.linenspruce_write(None, 0, linenspruce._Fields(*GOOD)).number == 21
+    tried += 6
+
+
+def long_ones(road):
+    """More numbers than a unit has, a long text and long rooms."""
+    global tried
+    room = bytearray(b"." * LONG)
+    assert road(room, [0] * 2050, Kind.OTHER, 0) == (3, 0)
+    assert road(room, [0] * LONG, Kind.OTHER, 0) == (3, 0)
+    assert road(room, [0] * (LONG + 1), Kind.OTHER, 0) == (2, 0)
+    assert read(room).reply == (11, 0)
+    assert room == b"." * LONG
+    assert road(room, SQUARE, Kind.BUILDING, 1) == (0, 0)
+    assert room == CASE_1 + b"." * (LONG - 20)
+    room[:20] = b"." * 20
+    assert write(room, GOOD) == (0, 0)
+    assert room == CASE_1 + b"." * (LONG - 20)
+    tried += 6
+
+
+wrong_coding(code_quick)
+wrong_coding(code_plain)
+wrong_writing()
+for other_text in NO_TEXT:
+    refuses(TypeError, None, read, other_text)
+refuses(OSError, None, linenspruce.load, "no/such/library.so")
+# What was loaded before is still there.
+right = bytearray(20)
+assert code_quick(right, tuple(SQUARE), Kind.BUILDING, 1) == Reply(0, 0) and right == CASE_1
+every_letter(linenspruce.load())
+no_pointer(linenspruce.load())
+long_ones(code_quick)
+long_ones(code_plain)
+print("library: %d wrong and long calls have their answers" % tried)
