@@ -1,25 +1,16 @@
 -- Replies in numbers (document 01, "Replies"), as other languages take them: what each struct of this crate says, in the terms of the
 -- definitions of coding, reading and writing. Assumes nothing.
 use Prim.Native.Nat.{ℕ}
-use mathlib.Core.Bool.{cond}
 use mathlib.Core.List.{List}
-use lib.Dec.{eqb}
 use Rattle.replies.specs.Replies.{Said, Outcome}
 use Rattle.ground.specs.declared.Rectangle as ground
 use Rattle.ground.specs.Levels.{lat, lon}
 use Rattle.code.specs.declared.Fields as code
 use Rattle.code.specs.Code.{Told}
-use Rattle.unit.specs.declared.Kind as unit
-use Rattle.unit.specs.declared.Kind.the-variants.{Building, Other}
 use Rattle.ffi.specs.declared.Reply.{Reply}
-use Rattle.ffi.specs.declared.Kind.{Kind}
 use Rattle.ffi.specs.declared.Fields.{Fields}
 use Rattle.ffi.specs.declared.Rectangle.{Rectangle}
 use Rattle.ffi.specs.declared.Reading.{Reading}
-
--- The listing's letter `B`, byte 66, is a building; every other byte is other kind
-abbrev pub kindOf : Kind → unit.Kind
-kindOf k = cond (eqb (k .letter) 66) Building Other
 
 -- What a reply says
 abbrev pub said : Reply → Said

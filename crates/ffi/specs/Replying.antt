@@ -1,9 +1,7 @@
 -- Laws of replies in numbers: what the crates below answer, put into numbers, says the same. Assumes nothing.
 use Prim.Native.Nat.{ℕ}
 use mathlib.Core.Path.{_≡_, refl, ap, ap₂, _∙_, sym}
-use mathlib.Core.Bool.{Bool, cond}
 use mathlib.Core.List.{List}
-use borrow.Author.Tests.{eq-eqb, ne-eqb}
 use Rattle.replies.specs.Replies.{Said, refused, Outcome}
 use Rattle.ground.specs.declared.Rectangle as ground
 use Rattle.code.specs.declared.Fields as code
@@ -13,23 +11,13 @@ use Rattle.code.specs.declared.Reading as of-reading
 use Rattle.code.specs.declared.Reading.the-variants as reads
 use Rattle.code.specs.Code as of-code
 use Rattle.unit.specs.declared.Kind as unit
-use Rattle.unit.specs.declared.Kind.the-variants.{Building, Other}
 use Rattle.unit.specs.declared.Coded.{Coded}
 use Rattle.unit.specs.Frame as of-unit
-use Rattle.unit.specs.Unit.{coding}
+use Rattle.unit.specs.Unit.{kindOf, coding}
 use Rattle.ffi.specs.declared.Reply.{Reply}
-use Rattle.ffi.specs.declared.Kind.{Kind}
 use Rattle.ffi.specs.declared.Fields.{Fields}
 use Rattle.ffi.specs.declared.Reading.{Reading}
-use Rattle.ffi.specs.Replies.{kindOf, said, sides, fieldsOf, leaves, tells}
-
--- The letter `B` is a building
-pub building : (k : Kind) → k .letter ≡ 66 → Building ≡ kindOf k
-building k e = ap (λ (b : Bool). cond b Building Other) (sym (eq-eqb (k .letter) 66 e))
-
--- and every other byte is other kind
-pub other : (k : Kind) → (k .letter ≡ 66 → ⊥) → Other ≡ kindOf k
-other k h = ap (λ (b : Bool). cond b Building Other) (sym (ne-eqb (k .letter) 66 h))
+use Rattle.ffi.specs.Replies.{said, sides, fieldsOf, leaves, tells}
 
 -- A reply by its two numbers
 pub says-both : {n p : ℕ} (s : Said) → n ≡ s .number → p ≡ s .place → said (record { number = n; place = p }) ≡ s
@@ -42,9 +30,9 @@ abbrev telling : Said → code.Fields → ground.Rectangle → of-code.Told
 telling s f r = record { said = s; fields = f; rectangle = r }
 
 -- What a road leaves, with its answer and its kind in numbers
-pub road-leaves : (r : Reply) (a : Coded) (kind : Kind) (k : unit.Kind) (number : ℕ) (numbers start room : List ℕ) → said r ≡ of-unit.says a
-    → k ≡ kindOf kind → of-unit.leaves a room ≡ coding start numbers k number → leaves r room ≡ coding start numbers (kindOf kind) number
-road-leaves r a kind k number numbers start room e h p =
+pub road-leaves : (r : Reply) (a : Coded) (letter : ℕ) (k : unit.Kind) (number : ℕ) (numbers start room : List ℕ) → said r ≡ of-unit.says a
+    → k ≡ kindOf letter → of-unit.leaves a room ≡ coding start numbers k number → leaves r room ≡ coding start numbers (kindOf letter) number
+road-leaves r a letter k number numbers start room e h p =
     ap (λ (s : Said). leaving s room) e ∙ p ∙ ap (λ (j : unit.Kind). coding start numbers j number) h
 
 -- What writing leaves: the place is always 0

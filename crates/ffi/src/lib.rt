@@ -4,9 +4,9 @@
 // that no second reply would do.
 ghost use mathlib.Core.Path.{_≡_};
 ghost use Rattle.code.specs.Code.{reading, writing, tells as Code·tells, tellsNothing};
-ghost use Rattle.unit.specs.Unit.{coding};
+ghost use Rattle.unit.specs.Unit.{kindOf, coding};
 ghost use Rattle.unit.specs.Frame.{says};
-ghost use Rattle.ffi.specs.Replies.{kindOf, said, sides, fieldsOf, leaves, tells};
+ghost use Rattle.ffi.specs.Replies.{said, sides, fieldsOf, leaves, tells};
 use ground::Lat;
 use ground::Lon;
 use ground::Point;
@@ -56,17 +56,6 @@ pub struct Reading {
     pub rectangle: Rectangle,
 }
 
-// The kind that a letter names.
-fn kind_of(kind: Kind) -> unit::Kind
-    ensures { λ r. ⌜ r ≡ kindOf kind ⌝ }
-{
-    if kind.letter == b'B' {
-        unit::Kind::Building
-    } else {
-        unit::Kind::Other
-    }
-}
-
 // An answer of coding in numbers.
 fn coded(answer: Coded) -> Reply
     ensures { λ r. ⌜ said r ≡ says answer ⌝ }
@@ -86,9 +75,9 @@ pub extern "C" fn linenspruce_code_quick(
     kind: Kind,
     number: u32,
 ) -> Reply
-    ensures { λ r. ⌜ leaves r (now (room .exit)) ≡ coding (now (room .entry)) (now (numbers .entry)) (kindOf kind) number ⌝ }
+    ensures { λ r. ⌜ leaves r (now (room .exit)) ≡ coding (now (room .entry)) (now (numbers .entry)) (kindOf (kind .letter)) number ⌝ }
 {
-    coded(quick::code(room, numbers, kind_of(kind), number))
+    coded(quick::code(room, numbers, unit::kind_of(kind.letter), number))
 }
 
 // The same by the plain road, which takes very long with a large thin unit.
@@ -99,9 +88,9 @@ pub extern "C" fn linenspruce_code_plain(
     kind: Kind,
     number: u32,
 ) -> Reply
-    ensures { λ r. ⌜ leaves r (now (room .exit)) ≡ coding (now (room .entry)) (now (numbers .entry)) (kindOf kind) number ⌝ }
+    ensures { λ r. ⌜ leaves r (now (room .exit)) ≡ coding (now (room .entry)) (now (numbers .entry)) (kindOf (kind .letter)) number ⌝ }
 {
-    coded(plain::code(room, numbers, kind_of(kind), number))
+    coded(plain::code(room, numbers, unit::kind_of(kind.letter), number))
 }
 
 // A rectangle's sides in numbers.

@@ -9,6 +9,7 @@ mod output;
 mod stated;
 
 pub use line::LONGEST;
+pub use line::ROOM;
 pub use line::add;
 pub use line::starts;
 pub use number::Number;

@@ -7,6 +7,9 @@ ghost use Rattle.lines.specs.Places.{startsWith};
 // The most bytes of a line that is not refused 10.
 pub const LONGEST: usize = 24576;
 
+// The room for a line: one byte more than a line may have, so that a longer one shows.
+pub const ROOM: usize = LONGEST + 1;
+
 // How many bytes of a line stand in a room after one byte more, which is not a line feed. The byte
 // goes into the room while the room lasts; the rest of a long line is passed over.
 pub fn add(room: &mut [u8], len: usize, byte: u8) -> usize

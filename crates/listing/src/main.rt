@@ -18,7 +18,7 @@ const WRITTEN: usize = READ * register::REPLY;
 
 fn main() {
     let mut input = [0u8; READ];
-    let mut room = [0u8; register::ROOM];
+    let mut room = [0u8; lines::ROOM];
     let mut output = [0u8; WRITTEN];
     list(&mut input, &mut room, &mut output);
 }

@@ -1,22 +1,15 @@
 -- Document 01, "The listing program": what the program says of a unit, which is what coding says of it in a room of twenty bytes.
 -- Assumes nothing.
 use Prim.Native.Nat.{ℕ}
-use Prim.Native.Char.{code}
 use mathlib.Core.Bool.{cond}
 use mathlib.Core.List.{List}
 use lib.ListN.{replicate}
 use lib.Dec.{eqb}
 use Rattle.replies.specs.Replies.{Outcome}
-use Rattle.unit.specs.declared.Kind.{Kind}
-use Rattle.unit.specs.declared.Kind.the-variants.{Building, Other}
-use Rattle.unit.specs.Unit.{coding}
+use Rattle.unit.specs.Unit.{kindOf, coding}
 use Rattle.lines.specs.Lines.{Reply, coded, refused}
 use Rattle.lines.specs.Automaton.{Coming}
 use Rattle.register.specs.declared.Line.{Line}
-
--- "`B` or `F` (building, other)"
-unfoldable pub kindOf : ℕ → Kind
-kindOf letter = cond (eqb letter (code "B")) Building Other
 
 -- "then the code or `refused`, number and place"
 abbrev pub replyOf : Outcome → Reply

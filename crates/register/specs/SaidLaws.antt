@@ -5,10 +5,10 @@ use mathlib.Core.List.{List}
 use lib.ListN.{replicate}
 use borrow.Author.Tests.{eq-eqb, ne-eqb}
 use Rattle.unit.specs.declared.Coded.{Coded}
-use Rattle.unit.specs.Unit.{coding}
+use Rattle.unit.specs.Unit.{kindOf, coding}
 use Rattle.unit.specs.Frame.{says, leaves}
 use Rattle.lines.specs.Lines.{coded, refused}
-use Rattle.register.specs.Said.{kindOf, replyOf, codeSaid}
+use Rattle.register.specs.Said.{replyOf, codeSaid}
 
 -- from an answer that keeps the promise of coding, in a room of twenty bytes
 module _ (letter number : ℕ) (coordinates later : List ℕ) (a : Coded) (so : leaves a later ≡ coding (replicate 20 0) coordinates (kindOf letter) number) where

@@ -7,14 +7,14 @@ use mathlib.Core.List.{List}
 use lib.ListN.{length, take, replicate}
 use lib.Dec.{eqb}
 use Rattle.replies.specs.Replies.{Outcome}
-use Rattle.unit.specs.Unit.{coding}
+use Rattle.unit.specs.Unit.{kindOf, coding}
 use Rattle.unit.specs.Framing.{coding-fits}
 use Rattle.lines.specs.Lines.{saying, coded, refused, longest, outputOf}
 use Rattle.lines.specs.Places.{Put}
 use Rattle.lines.specs.RoomLaws.{put-whole}
 use Rattle.lines.specs.Automaton.{Coming, first, together, ended, last, listed}
 use Rattle.lines.specs.AutomatonLaws.{Short, refusal-short, ended-short, last-short, listed-output}
-use Rattle.register.specs.Said.{kindOf, replyOf, codeSaid}
+use Rattle.register.specs.Said.{replyOf, codeSaid}
 
 -- However reads cut the input, the replies to them are the output for the whole input, lines numbered from 1
 pub whole : (room : List ℕ) (reads : List (List ℕ)) → longest < length room → 1 + length (together reads) < 2 ^ 64 → listed codeSaid (first room) reads ≡ outputOf codeSaid (together reads)

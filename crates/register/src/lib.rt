@@ -13,11 +13,6 @@ ghost use Rattle.lines.specs.Lines.{longest};
 ghost use Rattle.lines.specs.Automaton.{after, ended, last};
 ghost use Rattle.lines.specs.Places.{Put};
 ghost use Rattle.register.specs.Said.{codeSaid, coming};
-pub use reply::kind_of;
-
-// The room for a line: one byte more than a line may have, so that a longer one shows.
-pub const ROOM: usize = lines::LONGEST + 1;
-
 // The most bytes that a reply has: the line's number, `refused`, number and place.
 pub const REPLY: usize = 71;
 

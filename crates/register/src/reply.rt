@@ -4,9 +4,8 @@ ghost use mathlib.Core.Path.{_≡_};
 ghost use lib.ListN.{length, take};
 ghost use Rattle.lines.specs.Lines.{lineSaid, longest, replyLine};
 ghost use Rattle.lines.specs.Places.{Put};
-ghost use Rattle.register.specs.Said.{codeSaid, kindOf};
+ghost use Rattle.register.specs.Said.{codeSaid};
 use lines::Unit;
-use unit::Kind;
 
 // More coordinates than a line has: each takes a space and a digit.
 pub(crate) const MOST: usize = lines::LONGEST / 2;
@@ -56,20 +55,10 @@ fn reply_unit(
     ensures { λ r. ⌜ Put (now (out .entry)) at (replyLine line (codeSaid letter number (now (coordinates .entry)))) r (now (out .exit)) ⌝ }
 {
     let mut code = [0u8; 20];
-    let answer = quick::code(&mut code, coordinates, kind_of(letter), number);
+    let answer = quick::code(&mut code, coordinates, unit::kind_of(letter), number);
     let refusal = unit::coded_number(answer);
     if refusal == 0 {
         return lines::put_code(out, at, line, &code);
     }
     lines::put_refused(out, at, line, refusal, unit::coded_place(answer))
-}
-
-// The kind that a letter means: `B` a building, any other letter another kind.
-pub fn kind_of(letter: u8) -> Kind
-    ensures { λ r. ⌜ r ≡ kindOf letter ⌝ }
-{
-    if letter == b'B' {
-        return Kind::Building;
-    }
-    Kind::Other
 }

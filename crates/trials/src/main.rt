@@ -30,7 +30,7 @@ struct State {
 fn main() {
     let mut input = io::large_buffer();
     let mut output = io::large_buffer();
-    let mut room = [0u8; register::ROOM];
+    let mut room = [0u8; lines::ROOM];
     answer_all(&mut input, &mut room, &mut output);
 }
 

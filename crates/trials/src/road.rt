@@ -43,7 +43,7 @@ fn answer_unit(road: Road, size: usize, text: &[u8], out: &mut [u8], at: usize) 
         road,
         &mut room[0..size],
         &numbers[0..count],
-        register::kind_of(letter),
+        unit::kind_of(letter),
         number,
         out,
         at,

@@ -1,6 +1,7 @@
 -- Coding a unit (document 01, "The twenty characters" and "Replies"): scale, spans, checks 1 to 8, and coding as one function from room,
 -- numbers, kind and unit number to reply and room. Assumes nothing.
 use Prim.Native.Nat.{ℕ, zero, suc, _+_, _-_, _*_, _/_, _%_}
+use Prim.Native.Char.{code}
 use mathlib.Core.Bool.{Bool, true, false, cond, not, _||_}
 use mathlib.Core.List.{List, [], _∷_}
 use lib.Dec.{eqb, ltb}
@@ -53,6 +54,10 @@ fieldsOf r number c =
 -- A coordinate above its range
 abbrev pub aboveRange : Point → Bool
 aboveRange p = ltb latEnd (p .lat .0) || ltb lonEnd (p .lon .0)
+
+-- The kind by the listing's letter: "`B` or `F` (building, other)"; any other letter is another kind too
+unfoldable pub kindOf : ℕ → Kind
+kindOf letter = cond (eqb letter (code "B")) Building Other
 
 -- Building with a number not in 1 to 1,048,575, or other kind with a number not 0
 abbrev pub badNumber : Kind → ℕ → Bool

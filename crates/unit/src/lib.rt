@@ -14,11 +14,22 @@ use ground::Cell;
 pub use scale::scale_of;
 ghost use mathlib.Core.Path.{_≡_};
 ghost use Rattle.unit.specs.Frame.{says};
+ghost use Rattle.unit.specs.Unit.{kindOf};
 
 // The kind of a unit.
 pub enum Kind {
     Building,
     Other,
+}
+
+// The kind that a letter of the listing names: `B` a building, any other byte another kind.
+pub fn kind_of(letter: u8) -> Kind
+    ensures { λ r. ⌜ r ≡ kindOf letter ⌝ }
+{
+    if letter == b'B' {
+        return Kind::Building;
+    }
+    Kind::Other
 }
 
 // What a search for the chosen cell answers.

@@ -21,7 +21,7 @@ returns c =
     let road = c .before .before .before in
     let kind = road .before in
     let a = kind .before .before .before .before .args in
-    road-leaves (c .coded .result) (road .code .result) (a .kind) (kind .kind-of .result) (a .number) (a .numbers .now) (a .room .now)
+    road-leaves (c .coded .result) (road .code .result) (a .kind .letter) (kind .kind-of .result) (a .number) (a .numbers .now) (a .room .now)
     (road .code .last .0) (c .coded .ensures) (kind .kind-of .ensures) (road .code .ensures)
 
 pub linenspruce-code-quick-spec : {M : Type 1} → statement M

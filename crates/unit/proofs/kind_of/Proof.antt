@@ -1,8 +1,8 @@
--- `register::reply::kind_of` meets its contract, by the test on the letter. Assumes nothing.
+-- `unit::kind_of` meets its contract, by the test on the letter. Assumes nothing.
 use borrow.Author.Tests.{eq-eqb, ne-eqb}
-use Rattle.register.specs.Said.{kindOf}
-use Rattle.register.proofs.reply.kind_of.Statement.{statement}
-use Rattle.register.proofs.reply.kind_of.Tie as tie
+use Rattle.unit.specs.Unit.{kindOf}
+use Rattle.unit.proofs.kind_of.Statement.{statement}
+use Rattle.unit.proofs.kind_of.Tie as tie
 
 returns : tie.Need-returns
 unfolding kindOf
