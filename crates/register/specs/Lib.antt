@@ -2,4 +2,6 @@
 pub mod Said
 pub mod SaidLaws
 pub mod Whole
+pub mod SameGround
+pub mod Page
 pub mod Once

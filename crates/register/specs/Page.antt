@@ -1,0 +1,56 @@
+-- The page's own input and output (document 01, "The listing program"), by computation. Assumes nothing.
+use mathlib.Core.Path.{_≡_, refl}
+use Rattle.replies.specs.Texts.{bytes}
+use Rattle.ground.specs.Levels.{sizeOf}
+use Rattle.ground.specs.Cells.{afresh, lowSide, highSide, sidesOf, centreOf, locationCell}
+use Rattle.boundary.specs.Boundary.{edgesOf, left, leftOrOn, misses, crossesEast, inside}
+use Rattle.code.specs.Location.{bitsOf, paired, locationOf}
+use Rattle.code.specs.Code.{valuesOf, codeOf}
+use Rattle.boundary.specs.Corners.{cornersOf}
+use Rattle.unit.specs.Extents.{extremesOf}
+use Rattle.unit.specs.Chosen.{choose}
+use Rattle.unit.specs.Unit.{scaleOf, fieldsOf, cornerChecks, coding}
+use Rattle.unit.specs.Unit.{kindOf}
+use Rattle.lines.specs.Lines.{cut, valueAfter, isNumber, form, linesOf, spelling, replyLine, lineSaid, replies, outputOf}
+use Rattle.register.specs.Said.{codeSaid}
+
+page : outputOf codeSaid (bytes "F 0 0 0 0 960 32 960 32 0\nF 0 0 0 0 961 32 961 32 0\n\nB 0 0 0 0 960 32 960 32 0\n")
+    ≡ bytes "1 00000000001UY1120000\n2 refused 8 0\n3 refused 9 0\n4 refused 6 0\n"
+unfolding sizeOf
+    afresh
+    lowSide
+    highSide
+    sidesOf
+    centreOf
+    locationCell
+    edgesOf
+    left
+    leftOrOn
+    misses
+    crossesEast
+    inside
+    bitsOf
+    paired
+    locationOf
+    valuesOf
+    codeOf
+    cornersOf
+    extremesOf
+    choose
+    scaleOf
+    fieldsOf
+    cornerChecks
+    coding
+    kindOf
+    cut
+    valueAfter
+    isNumber
+    form
+    linesOf
+    spelling
+    replyLine
+    lineSaid
+    replies
+    outputOf
+    codeSaid
+page = refl
