@@ -11,7 +11,7 @@ use Rattle.unit.specs.Unit.{kindOf, coding}
 use Rattle.unit.specs.Framing.{coding-fits}
 use Rattle.lines.specs.Lines.{saying, coded, refused, longest, outputOf}
 use Rattle.lines.specs.Places.{Put}
-use Rattle.lines.specs.RoomLaws.{put-whole}
+use Rattle.lines.specs.RoomLaws.{put-within, put-whole}
 use Rattle.lines.specs.Automaton.{Coming, first, together, ended, last, listed}
 use Rattle.lines.specs.AutomatonLaws.{Short, refusal-short, ended-short, last-short, listed-output}
 use Rattle.register.specs.Said.{replyOf, codeSaid}
@@ -33,10 +33,20 @@ code-short letter number coordinates =
         pick true = omega (arith, h)
         pick false = refusal-short (left .said .number) (left .said .place)
 
--- Where the output has 71 bytes for each byte of a read, its first `put` bytes are the replies, and none is lost
-pub all-written : (line : Coming) (bytes lent : List ℕ) (put : ℕ) (out : List ℕ) → length bytes * 71 ≤ length lent → Put lent 0 (ended codeSaid line bytes) put out → take put out ≡ ended codeSaid line bytes
-all-written line bytes lent put out h p = put-whole p (omega (arith, ended-short codeSaid code-short line bytes)) .1
+-- An output that starts with a text: its first `count` bytes are the text
+pub record Starts (out : List ℕ) (count : ℕ) (text : List ℕ) : Type 0 where
+  pub within : count ≤ length out
+  pub first : take count out ≡ text
+
+-- Where the output has 71 bytes for each byte of a read it starts with all the replies, and none is lost
+pub all-written : (line : Coming) (bytes lent : List ℕ) (put : ℕ) (out : List ℕ) → length bytes * 71 ≤ length lent → Put lent 0 (ended codeSaid line bytes) put out → Starts out put (ended codeSaid line bytes)
+all-written line bytes lent put out h p =
+    record {
+      within = put-within p (omega arith);
+      first = put-whole p (omega (arith, ended-short codeSaid code-short line bytes)) .1;
+    }
 
 -- and likewise at the end of the input
-pub last-written : (line : Coming) (lent : List ℕ) (put : ℕ) (out : List ℕ) → 71 ≤ length lent → Put lent 0 (last codeSaid line) put out → take put out ≡ last codeSaid line
-last-written line lent put out h p = put-whole p (omega (arith, last-short codeSaid code-short line)) .1
+pub last-written : (line : Coming) (lent : List ℕ) (put : ℕ) (out : List ℕ) → 71 ≤ length lent → Put lent 0 (last codeSaid line) put out → Starts out put (last codeSaid line)
+last-written line lent put out h p =
+    record { within = put-within p (omega arith); first = put-whole p (omega (arith, last-short codeSaid code-short line)) .1 }

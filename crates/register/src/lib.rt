@@ -13,6 +13,7 @@ ghost use Rattle.lines.specs.Lines.{longest};
 ghost use Rattle.lines.specs.Automaton.{after, ended, last};
 ghost use Rattle.lines.specs.Places.{Put};
 ghost use Rattle.register.specs.Said.{codeSaid, coming};
+
 // The most bytes that a reply has: the line's number, `refused`, number and place.
 pub const REPLY: usize = 71;
 

@@ -1,6 +1,7 @@
 // Lets reading, writing, both roads and the boundary be tried from outside: a request a line on
 // standard input, an answer a line on standard output. A line that is no request is answered by `?`,
-// and a question by `1` for yes, `0` for no.
+// and a question by `1` for yes, `0` for no. A read or a write that fails ends the program, which says
+// so on standard error.
 //
 //     write ROOM LAT LON SCALE E W S N NUMBER     answers NUMBER PLACE and the room's bytes
 //     read TEXT                                   answers NUMBER PLACE, the fields and the sides
@@ -49,6 +50,10 @@ fn answer_all(input: &mut [u8], room: &mut [u8], output: &mut [u8]) {
             return;
         }
         let got = libc::read(STDIN_FILENO, input);
+        if got < 0 {
+            os::fail(b"trials: standard input");
+            return;
+        }
         let n = io::count(got, input);
         if n == 0 {
             finish(state, room, output);
@@ -97,13 +102,16 @@ fn end_line(state: State, room: &[u8], output: &mut [u8]) -> State {
     write_out(next, output)
 }
 
-// Writes what waits. After a failed write it writes nothing.
+// Writes what waits, or says that it cannot. After a failed write it writes nothing.
 fn write_out(state: State, output: &[u8]) -> State {
     if !state.sound {
         return state;
     }
     let waiting = state.waiting;
     let sound = waiting <= output.len() && io::write_all(STDOUT_FILENO, &output[0..waiting]);
+    if !sound {
+        os::fail(b"trials: standard output");
+    }
     State {
         len: state.len,
         waiting: 0,

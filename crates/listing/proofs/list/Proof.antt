@@ -1,10 +1,9 @@
 -- `listing::list` is safe and ends. The loop's invariant: the three buffers keep their lengths. The measure is the number of reads that
--- are left. What `register` puts ends within the output. Assumes nothing.
+-- are left. The output has room for the replies to what a read brought. Assumes nothing.
 use borrow.Author.Needs.{needs}
 use native.Mathlib.Omega.{arith}
 use mathlib.Core.Path.{_≡_}
-use lib.ListN.{length}
-use Rattle.lines.specs.RoomLaws.{put-within}
+use lib.ListN.{length, length-take}
 use Rattle.listing.proofs.list.Statement.{statement}
 use Rattle.listing.proofs.list.Tie as tie
 
@@ -43,10 +42,10 @@ count-requires : tie.Need-count-requires Inv-loop μ-loop
 count-requires c κs = search needs
 
 reply-last-requires : tie.Need-reply-last-requires Inv-loop μ-loop
-reply-last-requires c κs = search needs
+reply-last-requires c κs = omega (arith, c .before .before .before .before .before .before .before .before .before .before .before .before .before .before .before .pre .0, c .before .before .before .before .before .before .before .before .before .before .before .before .before .before .before .pre .1 .1, c .before .before .before .before .before .before .before .before .before .before .before .loop .inv .2)
 
 write-out-requires : tie.Need-write-out-requires Inv-loop μ-loop
-write-out-requires c κs = put-within (c .before .before .before .reply-last .ensures) (omega arith)
+write-out-requires c κs = c .before .before .before .reply-last .ensures .within
 
 same-length-4 : tie.Need-same-length-4 Inv-loop μ-loop
 same-length-4 c = search needs
@@ -67,10 +66,13 @@ slice-aggregate-reply-all : tie.Need-slice-aggregate-reply-all Inv-loop μ-loop
 slice-aggregate-reply-all c = search needs
 
 reply-all-requires : tie.Need-reply-all-requires Inv-loop μ-loop
-reply-all-requires c κs = search needs
+reply-all-requires c κs =
+    let read = c .before .before .before .before .before .before .before .before .before .read .last .1 .0 in
+    let same : length read ≡ length (c .before .before .before .before .before .before .before .before .before .before .before .before .before .before .before .before .args .input .now) = search needs in
+    omega (arith, length-take (c .before .before .before .before .count .result) read, same, c .before .before .before .before .before .before .before .before .before .before .before .before .before .before .before .before .pre .1 .1, c .before .before .before .before .before .before .before .before .before .before .before .before .loop .inv .2)
 
 write-out-requires-2 : tie.Need-write-out-requires-2 Inv-loop μ-loop
-write-out-requires-2 c κs = put-within (c .before .before .before .before .before .reply-all .ensures .1) (omega arith)
+write-out-requires-2 c κs = c .before .before .before .before .before .reply-all .ensures .1 .within
 
 same-length-7 : tie.Need-same-length-7 Inv-loop μ-loop
 same-length-7 c = search needs

@@ -1,11 +1,24 @@
--- `listing::main` is safe: its buffers have the lengths that they are lent with, told by a law, since the output's is too large to be
--- computed. Assumes nothing.
+-- `listing::main` is safe, and its buffers are as long as `list` asks. Their lengths are told by a law, since the output's is too large
+-- to be computed. Assumes nothing.
 use borrow.Author.Needs.{needs}
-use Prim.Native.Nat.{ℕ}
+use native.Mathlib.Omega.{arith}
+use Prim.Native.Nat.{ℕ, _*_, _≤_, _<_}
 use mathlib.Core.Path.{sym}
-use lib.ListN.{length-replicate}
+use lib.Dec.{lit<}
+use lib.ListN.{length, replicate, length-replicate}
 use Rattle.listing.proofs.main.Statement.{statement}
 use Rattle.listing.proofs.main.Tie as tie
+
+-- more than m elements
+some : (m n : ℕ) → m < n → m < length (replicate {A = ℕ} n 0)
+some m n h = omega (arith, h, length-replicate {A = ℕ} n 0)
+
+-- 71 bytes for each byte
+room : (m n : ℕ) → m * 71 ≤ n → length (replicate {A = ℕ} m 0) * 71 ≤ length (replicate {A = ℕ} n 0)
+room m n h = omega (arith, h, length-replicate {A = ℕ} m 0, length-replicate {A = ℕ} n 0)
+
+replies : 32768 * 71 ≤ 2326528
+replies = omega arith
 
 slice-aggregate-list : tie.Need-slice-aggregate-list
 slice-aggregate-list c = sym (length-replicate {A = ℕ} 32768 0)
@@ -17,7 +30,7 @@ slice-aggregate-list-3 : tie.Need-slice-aggregate-list-3
 slice-aggregate-list-3 c = sym (length-replicate {A = ℕ} 2326528 0)
 
 list-requires : tie.Need-list-requires
-list-requires c κs = search needs
+list-requires c κs = (some 0 32768 (lit< tt), (some 24576 24577 (lit< tt), room 32768 2326528 replies))
 
 returns : tie.Need-returns
 returns c = search needs

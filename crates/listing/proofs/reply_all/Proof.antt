@@ -1,0 +1,26 @@
+-- `listing::reply_all` meets its contract: replies have at most 71 bytes for each byte of a read. Assumes nothing.
+use Rattle.register.specs.Said.{coming}
+use Rattle.register.specs.Whole.{all-written}
+use borrow.Author.Needs.{needs}
+use Rattle.listing.proofs.reply_all.Statement.{statement}
+use Rattle.listing.proofs.reply_all.Tie as tie
+
+reply-all-requires : tie.Need-reply-all-requires
+reply-all-requires c κs = search needs
+
+same-length : tie.Need-same-length
+same-length c = search needs
+
+same-length-2 : tie.Need-same-length-2
+same-length-2 c = search needs
+
+returns : tie.Need-returns
+returns c =
+    let asked = c .before .before .before .before .before .before .before .before .before .before .args in
+    let said = c .before .before .before .before .reply-all in (
+      said .ensures .0,
+      all-written (coming (asked .line) (asked .room .now)) (asked .bytes .now) (asked .output .now) (said .result .put) (said .last .1 .1 .1 .0) (c .before .before .before .before .before .before .before .before .before .before .pre) (said .ensures .1),
+    )
+
+pub reply-all-spec : {M : Type 1} → statement M
+reply-all-spec = tie.close (tie.spec reply-all-requires same-length same-length-2 returns)

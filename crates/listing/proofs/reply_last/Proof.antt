@@ -1,0 +1,21 @@
+-- `listing::reply_last` meets its contract: a reply has at most 71 bytes. Assumes nothing.
+use Rattle.register.specs.Said.{coming}
+use Rattle.register.specs.Whole.{last-written}
+use borrow.Author.Needs.{needs}
+use Rattle.listing.proofs.reply_last.Statement.{statement}
+use Rattle.listing.proofs.reply_last.Tie as tie
+
+reply-last-requires : tie.Need-reply-last-requires
+reply-last-requires c κs = search needs
+
+same-length : tie.Need-same-length
+same-length c = search needs
+
+returns : tie.Need-returns
+returns c =
+    let asked = c .before .before .before .before .before .before .args in
+    let said = c .before .before .reply-last in
+    last-written (coming (asked .line) (asked .room .now)) (asked .output .now) (said .result) (said .last .1 .1 .0) (c .before .before .before .before .before .before .pre) (said .ensures)
+
+pub reply-last-spec : {M : Type 1} → statement M
+reply-last-spec = tie.close (tie.spec reply-last-requires same-length returns)
