@@ -1,11 +1,12 @@
-# What the scripts of this folder share; each sets root and reads this file with `.`.
+# What compare, listing and pairs share: each sets root and reads this file with `.`; beside also wants
+# a folder to work in, $work.
 judge=$root/target/judge
 
 # ready NAME COMMAND: builds the judge where it is missing or old, and the proved program NAME where it is
 # missing and COMMAND, which would stand for it, is empty.
 ready() {
     if [ -z "$2" ] && [ ! -x "$root/target/bin/$1" ]; then
-        rt check "$1"
+        (cd "$root" && rt check "$1")
     fi
     if [ ! -x "$judge" ] || [ -n "$(find "$root/judge" -name '*.rs' -newer "$judge")" ]; then
         "$root/judge/build"

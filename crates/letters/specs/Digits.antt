@@ -4,7 +4,7 @@ use native.Mathlib.Nat.{add-zero, pow-suc, mul-le-mul-right}
 use native.Mathlib.Omega.{arith}
 use mathlib.Core.Path.{_≡_, refl, ap, ap₂, _∙_}
 use mathlib.Core.List.{List, [], _∷_, _++_, append-assoc, append-nil}
-use lib.ListN.{length, length-append}
+use lib.ListN.{length}
 
 -- The last n digits of a number, high first
 abbrev pub digits : ℕ → ℕ → List ℕ
@@ -24,10 +24,6 @@ valueOf ds = valueFrom 0 ds
 pub data Digits : List ℕ → Type 0 where
   none : Digits []
   more : {d : ℕ} {ds : List ℕ} → d < 32 → Digits ds → Digits (d ∷ ds)
-
-pub digits-length : (n x : ℕ) → length (digits n x) ≡ n
-digits-length zero x = refl
-digits-length (suc n) x = simp length-append (omega (arith, digits-length n (x / 32)))
 
 -- Digits after digits are digits
 pub digits-append : {xs ys : List ℕ} → Digits xs → Digits ys → Digits (xs ++ ys)

@@ -20,7 +20,7 @@ use Rattle.lines.specs.Automaton.{Coming, first, grown, next, more, afte
 -- ---- the bytes that stand in the room
 
 -- the room has the first bytes of a text, as many as it takes
-pub record Stands (line : Coming) (text : List ℕ) : Type 0 where
+record Stands (line : Coming) (text : List ℕ) : Type 0 where
   pub len : line .len ≡ min (length text) (length (line .room))
   pub held : take (line .len) (line .room) ≡ take (length (line .room)) text
 
@@ -219,6 +219,10 @@ spelling-short (suc count) n = pick (spelling-short count (n / 10)) (ltb n 10)
     pick h true = omega arith
     pick h false = omega (arith, length-append (spelling count (n / 10)) ((48 + n % 10) ∷ []), h)
 
+-- the bytes of a reply at most: its line's number of 20 digits, a space, 49 bytes and a line feed
+abbrev pub replyMost : ℕ
+replyMost = 71
+
 -- a reply without its line's number, where what coding says has at most 49 bytes, as a refusal has
 abbrev pub Short : (ℕ → ℕ → List ℕ → Reply) → Type 0
 Short coding = (kind number : ℕ) (coordinates : List ℕ) → length (saying (coding kind number coordinates)) ≤ 49
@@ -245,7 +249,7 @@ module _ (coding : ℕ → ℕ → List ℕ → Reply) (short : Short coding) wh
       pick false (unit kind number coordinates) = short kind number coordinates
       pick false notOfThisForm = refusal-short 9 0
 
-  pub reply-short : (line : Coming) → length (reply coding line) ≤ 71
+  reply-short : (line : Coming) → length (reply coding line) ≤ replyMost
   unfolding replyLine
   reply-short line =
       let said : Reply = lineSaid coding (take (line .len) (line .room)) in
@@ -258,20 +262,20 @@ module _ (coding : ℕ → ℕ → List ℕ → Reply) (short : Short coding) wh
         said-short (take (line .len) (line .room)),
       )
 
-  pub ended-short : (line : Coming) (bytes : List ℕ) → length (ended coding line bytes) ≤ length bytes * 71
+  pub ended-short : (line : Coming) (bytes : List ℕ) → length (ended coding line bytes) ≤ length bytes * replyMost
   unfolding ended
   ended-short line [] = omega arith
   ended-short line (b ∷ bytes) = pick (ended-short (next line) bytes) (ended-short (more b line) bytes) (eqb b 10)
     where
-      pick : length (ended coding (next line) bytes) ≤ length bytes * 71 → length (ended coding (more b line) bytes) ≤ length bytes * 71 → (e : Bool) → length (cond e (reply coding line ++ ended coding (next line) bytes) (ended coding (more b line) bytes)) ≤ suc (length bytes) * 71
+      pick : length (ended coding (next line) bytes) ≤ length bytes * replyMost → length (ended coding (more b line) bytes) ≤ length bytes * replyMost → (e : Bool) → length (cond e (reply coding line ++ ended coding (next line) bytes) (ended coding (more b line) bytes)) ≤ suc (length bytes) * replyMost
       pick fed grew true = omega (arith, length-append (reply coding line) (ended coding (next line) bytes), reply-short line, fed)
       pick fed grew false = omega (arith, grew)
 
-  pub last-short : (line : Coming) → length (last coding line) ≤ 71
+  pub last-short : (line : Coming) → length (last coding line) ≤ replyMost
   unfolding last
   last-short line = pick (eqb (line .len) 0)
     where
-      pick : (e : Bool) → length (cond e [] (reply coding line)) ≤ 71
+      pick : (e : Bool) → length (cond e [] (reply coding line)) ≤ replyMost
       pick true = omega arith
       pick false = reply-short line
 

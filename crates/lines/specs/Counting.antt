@@ -37,7 +37,7 @@ pub record Counted (line : List ℕ) (at : ℕ) (lent room : List ℕ) (count i 
   pub kept : putAt lent 0 (leadingIn (drop at line)) ≡ putAt room count (leadingIn (drop i line))
 
 -- what `numbers_at` owes at its end
-abbrev pub Answered : List ℕ → ℕ → List ℕ → List ℕ → Numbers → Type 0
+abbrev Answered : List ℕ → ℕ → List ℕ → List ℕ → Numbers → Type 0
 Answered line at lent room reply = (reply ≡ countIn (drop at line)) × (room ≡ putAt lent 0 (leadingIn (drop at line)))
 
 pub counted-begin : (line : List ℕ) (at : ℕ) (room : List ℕ) → Counted line at room room 0 at

@@ -1,4 +1,5 @@
--- Worked examples of specs/Lines.antt, each by computation: the page's own input and output, and both sides of each rule.
+-- Worked examples of specs/Lines.antt, each by computation: numbers, lines and replies on both sides of their rules. The page's own
+-- output is in register/specs/Page.antt.
 -- Assumes nothing.
 use mathlib.Core.Path.{_≡_, refl}
 use mathlib.Core.Bool.{true, false}
@@ -50,7 +51,7 @@ page-refusal : replyLine 2 (refused 8 0) ≡ bytes "2 refused 8 0\n"
 unfolding replyLine spelling
 page-refusal = refl
 
-long-number : replyLine 4294967296 (refused 12 1023) ≡ bytes "4294967296 refused 12 1023\n"
+long-number : replyLine 4294967296 (refused 4 1023) ≡ bytes "4294967296 refused 4 1023\n"
 unfolding replyLine spelling
 long-number = refl
 

@@ -109,8 +109,8 @@ saying (refused number place) = bytes "refused " ++ decimal number ++ bytes " " 
 unfoldable pub replyLine : ℕ → Reply → List ℕ
 replyLine number said = decimal number ++ bytes " " ++ saying said ++ bytes "\n"
 
--- ---- "Refused 10: more than 24,576 bytes before the line feed or the end of input. Refused 9: any other line not of this form,
--- ---- empty ones too. Both have place 0 and come before 1 to 8."
+-- ---- "Refused 10: more than 24,576 bytes before the line feed or the end of input; the rest of that line is passed over. Refused 9: any
+-- ---- other line not of this form, empty ones too. Both have place 0 and come before 1 to 8."
 
 -- the most bytes of a line that is not refused 10
 abbrev pub longest : ℕ

@@ -11,7 +11,7 @@ use lib.Seq.{drop-cons, drop-drop}
 use lib.Dec.{eqb, lit<}
 use borrow.Author.Tests.{le-leb, lt-leb, lt-ltb, le-ltb, eq-eqb, ne-eqb}
 use Rattle.lines.specs.Lines.{cut, longer, every, valueAfter, value, isNumber}
-use Rattle.lines.specs.Places.{before, word, digitsAfter, wordOf, endingAt, numberAt, leading, leadingOf, leadingIn, countOf, countIn}
+use Rattle.lines.specs.Places.{word, digitsAfter, wordOf, endingAt, numberAt, leading, leadingOf, leadingIn, countOf, countIn}
 use Rattle.lines.specs.declared.number.Number.the-variants.{At, Bad}
 use Rattle.lines.specs.declared.number.Numbers.{Numbers}
 use Rattle.lines.specs.declared.number.Numbers.the-variants.{Count, Bad as Bad·s}
@@ -20,7 +20,7 @@ use Rattle.lines.specs.declared.number.Word.the-variants.{Value, Other}
 -- ---- digits
 
 -- a value does not fall as digits follow it
-pub value-grows : (n : ℕ) (t : List ℕ) → n ≤ valueAfter n t
+value-grows : (n : ℕ) (t : List ℕ) → n ≤ valueAfter n t
 unfolding valueAfter
 value-grows n [] = omega arith
 value-grows n (d ∷ t) = omega (arith, value-grows (10 * n + (d - 48)) t)
@@ -53,20 +53,20 @@ module _ (w : List ℕ) (i n : ℕ) where
 -- at a position of a line: past its end, at a space, at another byte
 module _ (l : List ℕ) (i : ℕ) where
   pub word-end : length l ≤ i → word (drop i l) ≡ []
-  unfolding before
+  unfolding word
   word-end h = rw (drop-of-length-le l h)
 
   pub word-space : i < length l → getD l i 0 ≡ 32 → word (drop i l) ≡ []
-  unfolding before
+  unfolding word
   word-space h k = rw (drop-cons l i 0 h, eq-eqb (getD l i 0) 32 k)
 
   pub word-more : i < length l → (getD l i 0 ≡ 32 → ⊥) → i + length (word (drop i l)) ≡ i + 1 + length (word (drop (i + 1) l))
-  unfolding before
+  unfolding word
   word-more h k = rw (drop-cons l i 0 h, ne-eqb (getD l i 0) 32 k, ap (λ (n : ℕ). drop n l) (add-one i)) (omega arith)
 
 -- it is the first bytes of its text
-pub word-taken : (t : List ℕ) → take (length (word t)) t ≡ word t
-unfolding before
+word-taken : (t : List ℕ) → take (length (word t)) t ≡ word t
+unfolding word
 word-taken [] = refl
 word-taken (b ∷ t) = pick (eqb b 32) (word-taken t)
   where
@@ -75,7 +75,7 @@ word-taken (b ∷ t) = pick (eqb b 32) (word-taken t)
     pick false h = ap (λ (l : List ℕ). b ∷ l) h
 
 -- a word is no longer than its text
-pub word-length : (t : List ℕ) → length (word t) ≤ length t
+word-length : (t : List ℕ) → length (word t) ≤ length t
 word-length t = omega (arith, ap length (word-taken t) ∙ refl, length-take (length (word t)) t)
 
 -- what a word is: empty, too long, with a leading zero, and of any other length as its digits say
@@ -123,7 +123,7 @@ after (piece ∷ pieces) = pieces
 
 -- the pieces of a text are its word and those after it
 pub cut-word : (t : List ℕ) → cut 32 t ≡ word t ∷ after (cut 32 (drop (length (word t)) t))
-unfolding cut before
+unfolding cut word
 cut-word [] = refl
 cut-word (b ∷ t) = pick (eqb b 32) refl (cut-word t)
   where
@@ -133,7 +133,7 @@ cut-word (b ∷ t) = pick (eqb b 32) refl (cut-word t)
 
 -- what follows a word starts with a space or is empty
 pub cut-after : (t : List ℕ) → cut 32 (drop (length (word t)) t) ≡ [] ∷ after (cut 32 (drop (length (word t)) t))
-unfolding cut before
+unfolding cut word
 cut-after [] = refl
 cut-after (b ∷ t) = pick (eqb b 32) refl (cut-after t)
   where

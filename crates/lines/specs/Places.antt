@@ -5,9 +5,9 @@ use Prim.Native.Char.{code}
 use mathlib.Core.Path.{_≡_}
 use mathlib.Core.Bool.{Bool, true, false, cond, _&&_}
 use mathlib.Core.List.{List, [], _∷_}
-use lib.ListN.{length, drop, set}
+use lib.ListN.{length, drop}
 use lib.Seq.{paste}
-use lib.Dec.{leb, ltb, eqb}
+use lib.Dec.{leb, eqb}
 use Rattle.lines.specs.Lines.{Form, unit, notOfThisForm, isKind, formOf, every, cut, isNumber, isDigit, value, valueAfter}
 use Rattle.lines.specs.declared.number.Number.{Number}
 use Rattle.lines.specs.declared.number.Number.the-variants.{At, Bad}
@@ -20,14 +20,10 @@ use Rattle.lines.specs.declared.stated.Unit.the-variants.{Stated, Bad as
 
 -- ---- a number at a position
 
--- the bytes of a text before the first byte b
-unfoldable pub before : ℕ → List ℕ → List ℕ
-before b [] = []
-before b (x ∷ text) = cond (eqb x b) [] (x ∷ before b text)
-
--- the word that a text starts with
-abbrev pub word : List ℕ → List ℕ
-word text = before (code " ") text
+-- the word that a text starts with: the bytes before the first space
+unfoldable pub word : List ℕ → List ℕ
+word [] = []
+word (x ∷ text) = cond (eqb x (code " ")) [] (x ∷ word text)
 
 -- the value of a number n with a word after it, where the word has digits alone and the value is at most 4,294,967,295
 unfoldable pub digitsAfter : ℕ → List ℕ → Word

@@ -6,12 +6,12 @@ use native.Mathlib.Numerals.{add-one}
 use native.Mathlib.Omega.{arith}
 use mathlib.Core.Path.{_≡_, refl, sym, ap, _∙_}
 use mathlib.Core.Logic.{_⊎_, ⊎-elim, inl, inr}
-use mathlib.Core.Bool.{Bool, true, false, cond, _||_, or-true, or-false}
+use mathlib.Core.Bool.{Bool, true, false}
 use mathlib.Core.List.{List, [], _∷_, _++_}
 use lib.ListN.{length, take, drop, getD, set, drop-of-length-le, length-set, length-append}
-use lib.Seq.{drop-cons, paste, paste-zero, set-out, take-suc-set, drop-set-lt, append-snoc, take-all, take-paste, drop-paste}
-use lib.Dec.{ltb, eqb}
-use borrow.Author.Tests.{ltb-true, ltb-false, lt-ltb, le-ltb, eq-eqb, ne-eqb}
+use lib.Seq.{drop-cons, paste, paste-zero, set-out, take-suc-set, drop-set-lt, append-snoc, take-all, take-paste}
+use lib.Dec.{ltb}
+use borrow.Author.Tests.{ltb-true, ltb-false, eq-eqb, ne-eqb}
 use Rattle.lines.specs.Places.{startsWith, fitting, putAt, Put}
 
 pub lt-or-le : (m n : ℕ) → (m < n) ⊎ (n ≤ m)
@@ -24,7 +24,7 @@ lt-or-le m n = go (ltb m n) refl
 -- ---- a text put into a buffer
 
 -- nothing fits at or past a buffer's end
-pub put-none : {A : Type 0} (out : List A) (at : ℕ) (text : List A) → length out ≤ at → putAt out at text ≡ out
+put-none : {A : Type 0} (out : List A) (at : ℕ) (text : List A) → length out ≤ at → putAt out at text ≡ out
 unfolding putAt
 put-none out at text h =
     let none : min (length text) (length out - at) ≡ 0 = omega arith in
@@ -104,17 +104,6 @@ put-then {out} {at} {s} {t} {end} p q =
           ∙ ap (λ (n : ℕ). putAt (putAt out at s) n t) (p .ends)
           ∙ put-append s out at t;
     }
-
--- a text's first elements, as many as there are
-pub take-least : {A : Type 0} (text : List A) (m : ℕ) → take (min (length text) m) text ≡ take m text
-take-least {A} text m =
-    ⊎-elim
-    (λ (k : m < length text).
-    let all : min (length text) m ≡ m = omega arith in
-    ap (λ (n : ℕ). take n text) all)
-    (λ (k : length text ≤ m).
-    take-all (min (length text) m) text (omega arith) ∙ sym (take-all m text k))
-    (lt-or-le m (length text))
 
 -- a text that fits is all there
 pub put-held : {A : Type 0} (out text : List A) → length text ≤ length out → take (length text) (putAt out 0 text) ≡ text

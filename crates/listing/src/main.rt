@@ -9,6 +9,7 @@ ghost use mathlib.Core.Path.{_≡_};
 ghost use lib.ListN.{length};
 ghost use Rattle.lines.specs.Lines.{longest};
 ghost use Rattle.lines.specs.Automaton.{after, ended, last};
+ghost use Rattle.lines.specs.AutomatonLaws.{replyMost};
 ghost use Rattle.register.specs.Said.{codeSaid, coming};
 ghost use Rattle.register.specs.Whole.{Starts};
 use libc::STDIN_FILENO;
@@ -34,7 +35,7 @@ fn main() {
 fn list(input: &mut [u8], room: &mut [u8], output: &mut [u8])
     requires { ⌜ 0 < length (now input) ⌝ }
     requires { ⌜ longest < length (now room) ⌝ }
-    requires { ⌜ length (now input) * 71 ≤ length (now output) ⌝ }
+    requires { ⌜ length (now input) * replyMost ≤ length (now output) ⌝ }
 {
     let mut line = Line { number: 1, len: 0 };
     let mut reads = u64::MAX;
@@ -61,7 +62,7 @@ fn list(input: &mut [u8], room: &mut [u8], output: &mut [u8])
 
 // The replies to the lines that end in the bytes of a read, all of them, at the start of the output.
 fn reply_all(line: Line, bytes: &[u8], room: &mut [u8], output: &mut [u8]) -> Listed
-    requires { ⌜ length (now bytes) * 71 ≤ length (now output) ⌝ }
+    requires { ⌜ length (now bytes) * replyMost ≤ length (now output) ⌝ }
     ensures { λ r. ⌜ coming (r .line) (now (room .exit)) ≡ after (coming line (now (room .entry))) (now (bytes .entry)) ⌝ }
     ensures { λ r. ⌜ Starts (now (output .exit)) (r .put) (ended codeSaid (coming line (now (room .entry))) (now (bytes .entry))) ⌝ }
 {
@@ -70,7 +71,7 @@ fn reply_all(line: Line, bytes: &[u8], room: &mut [u8], output: &mut [u8]) -> Li
 
 // The reply to a last line without line feed, whole, at the start of the output.
 fn reply_last(line: Line, room: &[u8], output: &mut [u8]) -> usize
-    requires { ⌜ 71 ≤ length (now output) ⌝ }
+    requires { ⌜ replyMost ≤ length (now output) ⌝ }
     ensures { λ r. ⌜ Starts (now (output .exit)) r (last codeSaid (coming line (now (room .entry)))) ⌝ }
 {
     register::reply_last(line, room, output)

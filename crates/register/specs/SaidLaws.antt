@@ -1,4 +1,4 @@
--- The laws of what is said of a unit: a code or a refusal, by the answer of a road, and how long it is. Assumes nothing.
+-- The laws of what is said of a unit: a code or a refusal, by the answer of a road. Assumes nothing.
 use Prim.Native.Nat.{ℕ}
 use mathlib.Core.Path.{_≡_, sym, ap, _∙_}
 use mathlib.Core.List.{List}

@@ -13,7 +13,7 @@ use Rattle.lines.specs.Lines.{saying, coded, refused, longest, outputOf}
 use Rattle.lines.specs.Places.{Put}
 use Rattle.lines.specs.RoomLaws.{put-within, put-whole}
 use Rattle.lines.specs.Automaton.{Coming, first, together, ended, last, listed}
-use Rattle.lines.specs.AutomatonLaws.{Short, refusal-short, ended-short, last-short, listed-output}
+use Rattle.lines.specs.AutomatonLaws.{replyMost, Short, refusal-short, ended-short, last-short, listed-output}
 use Rattle.register.specs.Said.{replyOf, codeSaid}
 
 -- However reads cut the input, the replies to them are the output for the whole input, lines numbered from 1
@@ -38,8 +38,8 @@ pub record Starts (out : List ℕ) (count : ℕ) (text : List ℕ) : Type 0 wher
   pub within : count ≤ length out
   pub first : take count out ≡ text
 
--- Where the output has 71 bytes for each byte of a read it starts with all the replies, and none is lost
-pub all-written : (line : Coming) (bytes lent : List ℕ) (put : ℕ) (out : List ℕ) → length bytes * 71 ≤ length lent → Put lent 0 (ended codeSaid line bytes) put out → Starts out put (ended codeSaid line bytes)
+-- Where the output has room for a reply to each byte of a read, it starts with all the replies, and none is lost
+pub all-written : (line : Coming) (bytes lent : List ℕ) (put : ℕ) (out : List ℕ) → length bytes * replyMost ≤ length lent → Put lent 0 (ended codeSaid line bytes) put out → Starts out put (ended codeSaid line bytes)
 all-written line bytes lent put out h p =
     record {
       within = put-within p (omega arith);
@@ -47,6 +47,6 @@ all-written line bytes lent put out h p =
     }
 
 -- and likewise at the end of the input
-pub last-written : (line : Coming) (lent : List ℕ) (put : ℕ) (out : List ℕ) → 71 ≤ length lent → Put lent 0 (last codeSaid line) put out → Starts out put (last codeSaid line)
+pub last-written : (line : Coming) (lent : List ℕ) (put : ℕ) (out : List ℕ) → replyMost ≤ length lent → Put lent 0 (last codeSaid line) put out → Starts out put (last codeSaid line)
 last-written line lent put out h p =
     record { within = put-within p (omega arith); first = put-whole p (omega (arith, last-short codeSaid code-short line)) .1 }

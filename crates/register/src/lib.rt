@@ -14,7 +14,7 @@ ghost use Rattle.lines.specs.Automaton.{after, ended, last};
 ghost use Rattle.lines.specs.Places.{Put};
 ghost use Rattle.register.specs.Said.{codeSaid, coming};
 
-// The most bytes that a reply has: the line's number, `refused`, number and place.
+// No reply has more bytes: the line's number, `refused`, number and place.
 pub const REPLY: usize = 71;
 
 // The line that comes in: its number, and how many of its bytes stand in the room.

@@ -1,6 +1,5 @@
 // The reply to one line.
 ghost use Prim.Native.Nat.{_*_, _≤_};
-ghost use mathlib.Core.Path.{_≡_};
 ghost use lib.ListN.{length, take};
 ghost use Rattle.lines.specs.Lines.{lineSaid, longest, replyLine};
 ghost use Rattle.lines.specs.Places.{Put};

@@ -1,10 +1,9 @@
 -- The rectangle read back covers the unit (document 01, "Four spans" and "Reading back"): the fields of a cell that is inside are good,
 -- each side lies at or beyond the unit's own extreme, by less than s, and so it is with the bytes that coding leaves. Assumes nothing.
 use Prim.Native.Nat.{ℕ, zero, suc, _+_, _-_, _*_, _/_, _≤_, _<_, min}
-use native.Mathlib.Nat.{div-mul-le-self, div-lt-iff-lt-mul, lt-div-mul-add}
+use native.Mathlib.Nat.{div-mul-le-self, lt-div-mul-add}
 use native.Mathlib.Omega.{arith}
 use mathlib.Core.Path.{_≡_, refl, ap, ap₂, sym, subst, _∙_}
-use mathlib.Core.Logic.{_↔_}
 use mathlib.Core.Bool.{Bool, true, false, _||_, true≢false}
 use mathlib.Core.List.{List, [], _∷_}
 use lib.Dec.{T, eqb, ltb}
@@ -19,9 +18,9 @@ use Rattle.ground.specs.Levels.{distance, degree, latEnd, lonEnd, sizeOf}
 use Rattle.ground.specs.Cells.{IsCell, locationCell, cornerOf}
 use Rattle.ground.specs.CellLaws.{Placed}
 use Rattle.code.specs.declared.Fields.{Fields}
-use Rattle.code.specs.Code.{codeOf, rectangleOf, writing, reading, Told, tellsOf}
+use Rattle.code.specs.Code.{rectangleOf, writing, reading, Told, tellsOf}
 use Rattle.code.specs.Writing.{within, Good, good-writing}
-use Rattle.code.specs.Reverse.{reading-code, reading-written}
+use Rattle.code.specs.Reverse.{reading-written}
 use Rattle.boundary.specs.Corners.{cornersOf}
 use Rattle.boundary.specs.Boundary.{inside}
 use Rattle.boundary.specs.Missing.{Holds}
@@ -51,12 +50,6 @@ rounded s d h =
     let most : q * s ≤ d + (s - 1) = div-mul-le-self (d + (s - 1)) s in
     let above : d + (s - 1) < q * s + s = lt-div-mul-add h in
     record { some = omega arith; reaches = rw less (omega arith); short = rw less (omega arith) }
-
--- A span is at most 31 exactly where the distance is at most 30 cells
-pub within-31 : (s d : ℕ) → 0 < s → (spanCells s d ≤ 31) ↔ (d ≤ 30 * s)
-within-31 s d some =
-    let t : ((d + (s - 1)) / s < 31) ↔ (d + (s - 1) < 31 * s) = div-lt-iff-lt-mul some in
-    (λ h. omega (arith, t .0 (omega arith)), λ h. omega (arith, t .1 (omega arith)))
 
 -- Two sides at or beyond two ends, by less than s
 pub record Beyond (s a b low high : ℕ) : Type 0 where
@@ -140,10 +133,6 @@ module _ {corners : List Point} {number : ℕ} {c : Cell} (p : Passing corners n
         south = (least .south, ltb-false 31 (f .south) (sn .0));
         number = p .unit;
       }
-
-  -- and are read back from their code
-  pub reading-fields : reading (codeOf (unitFields corners number c)) ≡ tellsOf (unitFields corners number c)
-  reading-fields = reading-code (unitFields corners number c) fields-good
 
   -- Their rectangle's sides lie at or beyond the unit's own extremes, by less than the scale's size
   pub fields-cover : Covers (extremesOf corners) (rectangleOf (unitFields corners number c)) (sizeOf (unitFields corners number c .scale))

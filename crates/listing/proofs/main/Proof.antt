@@ -6,6 +6,7 @@ use Prim.Native.Nat.{ℕ, _*_, _≤_, _<_}
 use mathlib.Core.Path.{sym}
 use lib.Dec.{lit<}
 use lib.ListN.{length, replicate, length-replicate}
+use Rattle.lines.specs.AutomatonLaws.{replyMost}
 use Rattle.listing.proofs.main.Statement.{statement}
 use Rattle.listing.proofs.main.Tie as tie
 
@@ -13,11 +14,11 @@ use Rattle.listing.proofs.main.Tie as tie
 some : (m n : ℕ) → m < n → m < length (replicate {A = ℕ} n 0)
 some m n h = omega (arith, h, length-replicate {A = ℕ} n 0)
 
--- 71 bytes for each byte
-room : (m n : ℕ) → m * 71 ≤ n → length (replicate {A = ℕ} m 0) * 71 ≤ length (replicate {A = ℕ} n 0)
+-- room for a reply to each byte
+room : (m n : ℕ) → m * replyMost ≤ n → length (replicate {A = ℕ} m 0) * replyMost ≤ length (replicate {A = ℕ} n 0)
 room m n h = omega (arith, h, length-replicate {A = ℕ} m 0, length-replicate {A = ℕ} n 0)
 
-replies : 32768 * 71 ≤ 2326528
+replies : 32768 * replyMost ≤ 2326528
 replies = omega arith
 
 slice-aggregate-list : tie.Need-slice-aggregate-list

@@ -1,8 +1,7 @@
 -- `register::reply_all` meets its contract. The loop's invariant is `Replying`, whose laws are in lines/specs/Replying.antt.
 -- Assumes nothing.
 use borrow.Author.Needs.{needs}
-use native.Mathlib.Omega.{arith}
-use Prim.Native.Nat.{ℕ, _-_, _≤_}
+use Prim.Native.Nat.{_-_}
 use mathlib.Core.Path.{_≡_, refl}
 use lib.ListN.{length}
 use Rattle.lines.specs.Replying.{Replying, replying-begin, replying-step, replying-end}

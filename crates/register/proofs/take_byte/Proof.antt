@@ -1,8 +1,6 @@
 -- `register::take_byte` meets its contract, by the two laws of one byte. Assumes nothing.
 use native.Mathlib.Omega.{arith}
-use Prim.Native.Nat.{ℕ}
-use mathlib.Core.Path.{sym, ap, _∙_}
-use Rattle.lines.specs.Automaton.{Coming}
+use mathlib.Core.Path.{sym}
 use Rattle.lines.specs.AutomatonLaws.{byte-feed, byte-more}
 use Rattle.lines.specs.RoomLaws.{put-nil}
 use Rattle.register.specs.Said.{codeSaid, coming}
