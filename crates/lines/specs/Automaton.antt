@@ -6,7 +6,7 @@ use mathlib.Core.Bool.{cond}
 use mathlib.Core.List.{List, [], _∷_, _++_}
 use lib.ListN.{length, take, set}
 use lib.Dec.{ltb, eqb}
-use Rattle.lines.specs.Lines.{Reply, lineSaid, replyLine}
+use Rattle.lines.specs.Lines.{Coding, lineSaid, replyLine}
 
 -- the line that comes in: its number, how many of its bytes stand in the room, and the room
 pub record Coming : Type 0 where
@@ -36,16 +36,16 @@ after line [] = line
 after line (b ∷ bytes) = cond (eqb b (code "\n")) (after (next line) bytes) (after (more b line) bytes)
 
 -- the reply to the line that comes in, where it ends here
-abbrev pub reply : (ℕ → ℕ → List ℕ → Reply) → Coming → List ℕ
+abbrev pub reply : Coding → Coming → List ℕ
 reply coding line = replyLine (line .number) (lineSaid coding (take (line .len) (line .room)))
 
 -- the replies to the lines that end in bytes
-unfoldable pub ended : (ℕ → ℕ → List ℕ → Reply) → Coming → List ℕ → List ℕ
+unfoldable pub ended : Coding → Coming → List ℕ → List ℕ
 ended coding line [] = []
 ended coding line (b ∷ bytes) = cond (eqb b (code "\n")) (reply coding line ++ ended coding (next line) bytes) (ended coding (more b line) bytes)
 
 -- "A last line needs no line feed, and none starts after a line feed that ends the input": the reply at the end of the input
-unfoldable pub last : (ℕ → ℕ → List ℕ → Reply) → Coming → List ℕ
+unfoldable pub last : Coding → Coming → List ℕ
 last coding line = cond (eqb (line .len) 0) [] (reply coding line)
 
 -- the bytes of several reads, one after the other
@@ -54,6 +54,6 @@ together [] = []
 together (bytes ∷ reads) = bytes ++ together reads
 
 -- the replies to an input that comes in several reads
-unfoldable pub listed : (ℕ → ℕ → List ℕ → Reply) → Coming → List (List ℕ) → List ℕ
+unfoldable pub listed : Coding → Coming → List (List ℕ) → List ℕ
 listed coding line [] = last coding line
 listed coding line (bytes ∷ reads) = ended coding line bytes ++ listed coding (after line bytes) reads

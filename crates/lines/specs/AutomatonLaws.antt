@@ -13,7 +13,7 @@ use lib.Seq.{set-out, take-suc-set, append-snoc, take-all, take-append-le}
 use lib.Dec.{ltb, eqb}
 use borrow.Author.Tests.{lt-ltb, le-ltb, eq-eqb, ne-eqb}
 use Rattle.replies.specs.Texts.{bytes}
-use Rattle.lines.specs.Lines.{Form, unit, notOfThisForm, form, formSaid, Reply, refused, saying, spelling, decimal, longest, cut, longer, withoutEmptyLast, linesOf, lineSaid, replyLine, replies, outputOf}
+use Rattle.lines.specs.Lines.{Form, unit, notOfThisForm, form, formSaid, Coding, Reply, refused, saying, spelling, decimal, longest, cut, longer, withoutEmptyLast, linesOf, lineSaid, replyLine, replies, outputOf}
 use Rattle.lines.specs.RoomLaws.{lt-or-le}
 use Rattle.lines.specs.Automaton.{Coming, first, grown, next, more, after, reply, ended, last, together, listed}
 
@@ -70,7 +70,7 @@ stands-more line text b so = ⊎-elim within past (lt-or-le (length text) (lengt
 
 -- ---- a line in a room that is longer than a line may be
 
-module _ (coding : ℕ → ℕ → List ℕ → Reply) where
+module _ (coding : Coding) where
   -- what is said of a line goes by its first bytes
   said-first : (size : ℕ) (text : List ℕ) → longest < size → lineSaid coding (take size text) ≡ lineSaid coding text
   unfolding lineSaid
@@ -134,7 +134,7 @@ lines-cut line (x ∷ text) = pick (eqb x 10)
 
 -- ---- the whole output
 
-module _ (coding : ℕ → ℕ → List ℕ → Reply) where
+module _ (coding : Coding) where
   -- the replies from a line on that has begun with a text
   abbrev From : Coming → List ℕ → List ℕ → Type 0
   From line text input = ended coding line input ++ last coding (after line input) ≡ replies coding (line .number) (withoutEmptyLast (joined text (cut 10 input)))
@@ -224,7 +224,7 @@ abbrev pub replyMost : ℕ
 replyMost = 71
 
 -- a reply without its line's number, where what coding says has at most 49 bytes, as a refusal has
-abbrev pub Short : (ℕ → ℕ → List ℕ → Reply) → Type 0
+abbrev pub Short : Coding → Type 0
 Short coding = (kind number : ℕ) (coordinates : List ℕ) → length (saying (coding kind number coordinates)) ≤ 49
 
 -- a refusal
@@ -239,7 +239,7 @@ refusal-short number place =
       spelling-short 20 place,
     )
 
-module _ (coding : ℕ → ℕ → List ℕ → Reply) (short : Short coding) where
+module _ (coding : Coding) (short : Short coding) where
   said-short : (line : List ℕ) → length (saying (lineSaid coding line)) ≤ 49
   unfolding lineSaid
   said-short line = pick (ltb longest (length line)) (form line)
@@ -281,7 +281,7 @@ module _ (coding : ℕ → ℕ → List ℕ → Reply) (short : Short coding) wh
 
 -- ---- the end of the input, in a line that has not begun or in one that has; one byte, a line feed or another
 
-module _ (coding : ℕ → ℕ → List ℕ → Reply) (line : Coming) where
+module _ (coding : Coding) (line : Coming) where
   pub byte-feed : (b : ℕ) → b ≡ 10 → (after line (b ∷ []) ≡ next line) × (ended coding line (b ∷ []) ≡ reply coding line)
   unfolding after ended
   byte-feed b e = rw (eq-eqb b 10 e) (refl, append-nil (reply coding line))

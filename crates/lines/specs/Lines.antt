@@ -116,20 +116,24 @@ replyLine number said = decimal number ++ bytes " " ++ saying said ++ bytes "\n"
 abbrev pub longest : ℕ
 longest = 24576
 
--- what is said of a form, where `coding` says it of a unit's kind, number and coordinates
-abbrev pub formSaid : (ℕ → ℕ → List ℕ → Reply) → Form → Reply
+-- what says it of a unit's kind, number and coordinates
+abbrev pub Coding : Type 0
+Coding = ℕ → ℕ → List ℕ → Reply
+
+-- what is said of a form, where `coding` says it of a unit
+abbrev pub formSaid : Coding → Form → Reply
 formSaid coding (unit kind number coordinates) = coding kind number coordinates
 formSaid coding notOfThisForm = refused 9 0
 
 -- what is said of a line
-unfoldable pub lineSaid : (ℕ → ℕ → List ℕ → Reply) → List ℕ → Reply
+unfoldable pub lineSaid : Coding → List ℕ → Reply
 lineSaid coding line = cond (ltb longest (length line)) (refused 10 0) (formSaid coding (form line))
 
 -- the replies to lines whose first has a number
-unfoldable pub replies : (ℕ → ℕ → List ℕ → Reply) → ℕ → List (List ℕ) → List ℕ
+unfoldable pub replies : Coding → ℕ → List (List ℕ) → List ℕ
 replies coding number [] = []
 replies coding number (line ∷ lines) = replyLine number (lineSaid coding line) ++ replies coding (number + 1) lines
 
 -- the output for an input: lines are numbered from 1
-unfoldable pub outputOf : (ℕ → ℕ → List ℕ → Reply) → List ℕ → List ℕ
+unfoldable pub outputOf : Coding → List ℕ → List ℕ
 outputOf coding input = replies coding 1 (linesOf input)

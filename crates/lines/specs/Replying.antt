@@ -7,13 +7,13 @@ use mathlib.Core.Path.{_≡_, refl, sym, ap, _∙_}
 use mathlib.Core.List.{List, [], _∷_, _++_, append-nil, append-assoc}
 use lib.ListN.{length, drop, getD, drop-of-length-le}
 use lib.Seq.{drop-cons}
-use Rattle.lines.specs.Lines.{Reply}
+use Rattle.lines.specs.Lines.{Coding}
 use Rattle.lines.specs.Places.{Put}
 use Rattle.lines.specs.RoomLaws.{put-nil, put-then}
 use Rattle.lines.specs.Automaton.{Coming, after, ended}
 use Rattle.lines.specs.AutomatonLaws.{after-append, ended-append}
 
-module _ (coding : ℕ → ℕ → List ℕ → Reply) (start : Coming) (bytes lent : List ℕ) where
+module _ (coding : Coding) (start : Coming) (bytes lent : List ℕ) where
   -- the bytes before the position i are taken, and the replies in them put
   pub record Replying (line : Coming) (out : List ℕ) (put i : ℕ) : Type 0 where
     pub done : List ℕ

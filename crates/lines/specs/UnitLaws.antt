@@ -8,7 +8,7 @@ use lib.ListN.{length, take, drop, getD, length-map}
 use lib.Seq.{drop-drop}
 use lib.Dec.{eqb}
 use borrow.Author.Tests.{eqb-true, lt-ltb, le-ltb}
-use Rattle.lines.specs.Lines.{Form, unit, notOfThisForm, formSaid, Reply, refused, longest, lineSaid, isKind, isNumber, value, every, cut, longer, form, formOf}
+use Rattle.lines.specs.Lines.{Form, unit, notOfThisForm, formSaid, Coding, refused, longest, lineSaid, isKind, isNumber, value, every, cut, longer, form, formOf}
 use Rattle.lines.specs.Places.{word, numberAt, countIn, leading, leadingIn, startsWith, unitSaid, coordinatesOf, coordinatesIn, unitAfter, coordinatesAfter, putAt}
 use Rattle.lines.specs.RoomLaws.{length-put, put-held}
 use Rattle.lines.specs.NumberLaws.{after, cut-word, cut-after, found, missed}
@@ -186,7 +186,7 @@ unit-kept line room later {kind} {number} {count} h k e p =
 
 -- ---- what is said of a line: one that is too long, one not of this form, one that states a unit
 
-module _ (coding : ℕ → ℕ → List ℕ → Reply) (line : List ℕ) where
+module _ (coding : Coding) (line : List ℕ) where
   pub said-long : longest < length line → lineSaid coding line ≡ refused 10 0
   unfolding lineSaid
   said-long h = rw (lt-ltb longest (length line) h)

@@ -7,7 +7,7 @@ use lib.ListN.{replicate}
 use lib.Dec.{eqb}
 use Rattle.replies.specs.Replies.{Outcome}
 use Rattle.unit.specs.Unit.{kindOf, coding}
-use Rattle.lines.specs.Lines.{Reply, coded, refused}
+use Rattle.lines.specs.Lines.{Coding, Reply, coded, refused}
 use Rattle.lines.specs.Automaton.{Coming}
 use Rattle.register.specs.declared.Line.{Line}
 
@@ -16,7 +16,7 @@ abbrev pub replyOf : Outcome → Reply
 replyOf left = cond (eqb (left .said .number) 0) (coded (left .room)) (refused (left .said .number) (left .said .place))
 
 -- what is said of a unit by the letter of its kind, its number and its coordinates
-unfoldable pub codeSaid : ℕ → ℕ → List ℕ → Reply
+unfoldable pub codeSaid : Coding
 codeSaid letter number coordinates = replyOf (coding (replicate 20 0) coordinates (kindOf letter) number)
 
 -- the line that comes in, with the room that its bytes stand in
