@@ -1,4 +1,4 @@
--- What the searches within this crate ask of their callers, and what they tell of a level. Assumes nothing.
+-- What the searches within this crate ask of their callers, and what they tell of levels. Assumes nothing.
 use Prim.Native.Nat.{ℕ, _+_, _-_, _/_, _%_, _≤_, _<_}
 use mathlib.Core.Path.{_≡_}
 use mathlib.Core.Bool.{Bool, true, false, _||_}
@@ -19,7 +19,7 @@ use Rattle.quick.specs.declared.search.Nearby.{Nearby}
 use Rattle.quick.specs.declared.search.Nearby.the-variants.{Found, Next}
 use Rattle.quick.specs.Kept.{Listed}
 
--- Halvings that are left, latitude first: the ground is a cell's of the level that they lead down from
+-- Halvings that are left down to a level, latitude first: the ground is a cell's of the level that they lead down from
 pub record ByLat (level left : ℕ) (r : Rectangle) : Type 0 where
   pub even : left % 2 ≡ 0
   pub coarsest : 9 + left / 2 ≤ level
@@ -39,7 +39,7 @@ pub record ByLon (level left : ℕ) (r : Rectangle) : Type 0 where
   pub north-end : r .north .0 ≤ latEnd
   pub east-end : r .east .0 ≤ lonEnd
 
--- A level from 9 to 27, and one to start halving from that is not finer
+-- A finest level up to 27, and one from 9 on to start from that is not finer
 pub record Levels (level top : ℕ) : Type 0 where
   pub coarsest : 9 ≤ top
   pub below : top ≤ level

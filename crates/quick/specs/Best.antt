@@ -1,13 +1,13 @@
--- What a search of one level gives for a rectangle of ground: the leftmost, then lowest of the wanted cells in it (document 01, "What the
--- work covers" and "The cell inside"), and the laws by which the answers for two parts make that for the whole. Assumes nothing.
-use Prim.Native.Nat.{ℕ, _≤_}
+-- What a search gives for a rectangle of ground: the first of the wanted cells in it, by level, then west side, then south side (document
+-- 01, "What the work covers" and "The cell inside"), and the laws by which the answers for two parts make that for the whole. Assumes nothing.
+use Prim.Native.Nat.{ℕ, _+_, _-_, _≤_, _<_}
 use native.Mathlib.Omega.{arith}
-use mathlib.Core.Path.{_≡_, refl, sym, ap, subst, _∙_}
+use mathlib.Core.Path.{_≡_, refl, sym, ap, _∙_}
 use mathlib.Core.Logic.{_⊎_, inl, inr}
 use mathlib.Core.Bool.{Bool, true, false, cond, not, _&&_, false≢true}
 use mathlib.Core.List.{List}
-use lib.Dec.{ltb}
-use borrow.Author.Tests.{ltb-true, ltb-false}
+use lib.Dec.{ltb, eqb}
+use borrow.Author.Tests.{ltb-true, ltb-false, eqb-true, eqb-false}
 use Rattle.ground.specs.declared.Lat.{Lat}
 use Rattle.ground.specs.declared.Lon.{Lon}
 use Rattle.ground.specs.declared.Point.{Point}
@@ -15,26 +15,28 @@ use Rattle.ground.specs.declared.Rectangle.{Rectangle}
 use Rattle.ground.specs.declared.Cell.{Cell}
 use Rattle.ground.specs.Cells.{lowSide, highSide, sidesOf, centreOf, IsCell}
 use Rattle.ground.specs.CellTest.{low-below-high}
-use Rattle.ground.specs.Halves.{split}
+use Rattle.ground.specs.Halves.{split, low-finer}
 use Rattle.boundary.specs.Boundary.{edgesOf, pointInside, unmet, inside}
 use Rattle.boundary.specs.Missing.{Within, both}
 use Rattle.boundary.specs.Parity.{Room, same-inside}
+use Rattle.boundary.specs.Products.{either-way}
 use Rattle.boundary.specs.Inner.{centre-lies, lies-within}
 use Rattle.unit.specs.declared.Choice.{Choice}
 use Rattle.unit.specs.declared.Choice.the-variants.{At, Nowhere}
-use Rattle.unit.specs.Chosen.{Lefter}
+use Rattle.unit.specs.Chosen.{Before}
 
--- A wanted cell in a rectangle of ground: of a level, inside, and within the ground
-pub record Wanted (corners : List Point) (level : ℕ) (r : Rectangle) (c : Cell) : Type 0 where
+-- A wanted cell in a rectangle of ground: of a level from one to another, inside, and within the ground
+pub record Wanted (corners : List Point) (from finest : ℕ) (r : Rectangle) (c : Cell) : Type 0 where
   pub cell : IsCell c
-  pub of : c .level ≡ level
+  pub least : from ≤ c .level
+  pub most : c .level ≤ finest
   pub is : inside corners c ≡ true
   pub lies : Within (sidesOf c) r
 
--- The leftmost, then lowest of the wanted cells; or none, where there is none
-abbrev pub Best : List Point → ℕ → Rectangle → Choice → Type 0
-Best corners level r (At c) = Wanted corners level r c × ((d : Cell) → Wanted corners level r d → Lefter d c → ⊥)
-Best corners level r Nowhere = (d : Cell) → Wanted corners level r d → ⊥
+-- The first of the wanted cells; or none, where there is none
+abbrev pub Best : List Point → ℕ → ℕ → Rectangle → Choice → Type 0
+Best corners from finest r (At c) = Wanted corners from finest r c × ((d : Cell) → Wanted corners from finest r d → Before d c → ⊥)
+Best corners from finest r Nowhere = (d : Cell) → Wanted corners from finest r d → ⊥
 
 -- The parts of a rectangle south and north of a latitude, west and east of a longitude
 abbrev pub southOf : Rectangle → Lat → Rectangle
@@ -49,11 +51,20 @@ westOf r at = record { west = r .west; east = at; south = r .south; north = r .n
 abbrev pub eastOf : Rectangle → Lon → Rectangle
 eastOf r at = record { west = at; east = r .east; south = r .south; north = r .north }
 
--- The leftmost of two cells, the first of them where both have the same west side
-abbrev pub lefter : Choice → Choice → Choice
-lefter Nowhere second = second
-lefter (At c) Nowhere = At c
-lefter (At c) (At d) = cond (ltb (d .west .0) (c .west .0)) (At d) (At c)
+-- A cell is of a lower level number than another, or of the same and further west
+abbrev pub sooner : Cell → Cell → Bool
+sooner d c = cond (eqb (d .level) (c .level)) (ltb (d .west .0) (c .west .0)) (ltb (d .level) (c .level))
+
+-- The first of two answers, where a later cell of the same level and west side is no lower
+abbrev pub earlier : Choice → Choice → Choice
+earlier Nowhere second = second
+earlier (At c) Nowhere = At c
+earlier (At c) (At d) = cond (sooner d c) (At d) (At c)
+
+-- The level of a cell that is found, or another number
+abbrev pub levelOf : Choice → ℕ → ℕ
+levelOf (At c) none = c .level
+levelOf Nowhere none = none
 
 -- The test for passing over: no edge meets the half, and its centre is not inside
 unfoldable pub passesOver : List Point → Rectangle → Bool
@@ -69,7 +80,7 @@ cell-room c is =
     }
 
 -- It never passes over a half that holds a wanted cell
-pub passed-none : (corners : List Point) {r : Rectangle} → passesOver corners r ≡ true → {level : ℕ} → Best corners level r Nowhere
+pub passed-none : (corners : List Point) {r : Rectangle} → passesOver corners r ≡ true → {from finest : ℕ} → Best corners from finest r Nowhere
 unfolding passesOver inside
 passed-none corners {r} t d w =
     let ts = both (unmet r (edgesOf corners)) (not (pointInside (centreOf r) (edgesOf corners))) t in
@@ -79,133 +90,260 @@ passed-none corners {r} t d w =
     let same = same-inside (lies-within (w .lies) (centre-lies room)) (centre-lies wide) corners (ts .0) in
     false≢true (ap not (sym (sym same ∙ ds .1)) ∙ ts .1)
 
-module _ {corners : List Point} {level : ℕ} where
-  -- A wanted cell of a part is one of the whole
-  pub wanted-within : {r s : Rectangle} {c : Cell} → Within r s → Wanted corners level r c → Wanted corners level s c
-  wanted-within h w =
+-- A cell that is sooner is before the other
+sooner-before : (d c : Cell) → sooner d c ≡ true → Before d c
+sooner-before d c t = at (eqb (d .level) (c .level)) refl t
+  where
+    at : (b : Bool) → eqb (d .level) (c .level) ≡ b → cond b (ltb (d .west .0) (c .west .0)) (ltb (d .level) (c .level)) ≡ true → Before d c
+    at true e h = inr (eqb-true (d .level) (c .level) e, inl (ltb-true (d .west .0) (c .west .0) h))
+    at false e h = inl (ltb-true (d .level) (c .level) h)
+
+-- and one that is not is of a finer level, or of the same and no further west
+not-sooner : (d c : Cell) → sooner d c ≡ false → (c .level < d .level) ⊎ ((c .level ≡ d .level) × (c .west .0 ≤ d .west .0))
+not-sooner d c t = at (eqb (d .level) (c .level)) refl t
+  where
+    at : (b : Bool) → eqb (d .level) (c .level) ≡ b → cond b (ltb (d .west .0) (c .west .0)) (ltb (d .level) (c .level)) ≡ false
+        → (c .level < d .level) ⊎ ((c .level ≡ d .level) × (c .west .0 ≤ d .west .0))
+    at true e h = inr (sym (eqb-true (d .level) (c .level) e), ltb-false (d .west .0) (c .west .0) h)
+    at false e h = inl (below (ltb-false (d .level) (c .level) h) (eqb-false (d .level) (c .level) e))
+      where
+        below : c .level ≤ d .level → (d .level ≡ c .level → ⊥) → c .level < d .level
+        below k other = pick (either-way (d .level) (c .level))
+          where
+            pick : (d .level ≤ c .level) ⊎ (c .level < d .level) → c .level < d .level
+            pick (inl m) = let same : d .level ≡ c .level = omega arith in absurd (other same)
+            pick (inr m) = m
+
+-- What is before a cell is of no finer level
+before-most : (x c : Cell) → Before x c → x .level ≤ c .level
+before-most x c (inl h) = omega arith
+before-most x c (inr (e, h)) = omega arith
+
+-- and before what comes after that cell
+before-then : (x d c : Cell) → Before x d → Before d c → Before x c
+before-then x d c (inl h) l = let most = before-most d c l in inl (omega arith)
+before-then x d c (inr (e, h)) (inl l) = inl (omega arith)
+before-then x d c (inr (e, inl h)) (inr (f, inl l)) = inr (e ∙ f, inl (omega arith))
+before-then x d c (inr (e, inl h)) (inr (f, inr (k, l))) = inr (e ∙ f, inl (omega arith))
+before-then x d c (inr (e, inr (k, h))) (inr (f, inl l)) = inr (e ∙ f, inl (omega arith))
+before-then x d c (inr (e, inr (k, h))) (inr (f, inr (m, l))) = inr (e ∙ f, inr (k ∙ m, omega arith))
+
+module _ {corners : List Point} {from : ℕ} where
+  -- A wanted cell of a part, or of fewer levels, is one of the whole
+  pub wanted-within : {limit finest : ℕ} {r s : Rectangle} {c : Cell} → limit ≤ finest → Within r s → Wanted corners from limit r c
+      → Wanted corners from finest s c
+  wanted-within less h w =
       record {
         cell = w .cell;
-        of = w .of;
+        least = w .least;
+        most = omega (arith, w .most);
         is = w .is;
         lies = omega (arith, h .west, h .east, h .south, h .north, w .lies .west, w .lies .east, w .lies .south, w .lies .north);
       }
 
-  -- The answer for ground that holds every wanted cell of a larger one is the answer for that
-  pub best-all : {r s : Rectangle} (choice : Choice) → Within r s → ((d : Cell) → Wanted corners level s d → Within (sidesOf d) r)
-      → Best corners level r choice → Best corners level s choice
-  best-all (At c) h all b =
-      (wanted-within h (b .0), λ d w. b .1 d (record { cell = w .cell; of = w .of; is = w .is; lies = all d w }))
-  best-all Nowhere h all b = λ d w. b d (record { cell = w .cell; of = w .of; is = w .is; lies = all d w })
+  -- and one of the whole that lies in a part and is of those levels is one of the part
+  pub wanted-part : {limit finest : ℕ} {r s : Rectangle} {c : Cell} → Wanted corners from finest s c → c .level ≤ limit
+      → Within (sidesOf c) r → Wanted corners from limit r c
+  wanted-part w most lies = record { cell = w .cell; least = w .least; most = most; is = w .is; lies = lies }
 
-module _ (corners : List Point) (level : ℕ) (coarsest : 9 ≤ level) (finest : level ≤ 27) (r : Rectangle) where
-  -- A wanted cell is south or north of a latitude that is a low side of its level
-  lat-parts : (at : Lat) → lowSide level (at .0) ≡ at .0 → (d : Cell) → Wanted corners level r d
-      → (Wanted corners level (southOf r at) d) ⊎ (Wanted corners level (northOf r at) d)
-  unfolding sidesOf
-  lat-parts at is d w = by (split level (at .0) (d .south .0) coarsest finest is (subst (λ (n : ℕ). lowSide n (d .south .0) ≡ d .south .0) (w .of) (w .cell .south)))
-    where
-      by : (highSide level (d .south .0) ≤ at .0) ⊎ (at .0 ≤ d .south .0)
-          → (Wanted corners level (southOf r at) d) ⊎ (Wanted corners level (northOf r at) d)
-      by (inl h) =
-          let ends : highSide (d .level) (d .south .0) ≤ at .0 = subst (λ (n : ℕ). highSide n (d .south .0) ≤ at .0) (sym (w .of)) h in
-          inl (record {
-            cell = w .cell;
-            of = w .of;
-            is = w .is;
-            lies = record { west = w .lies .west; east = w .lies .east; south = w .lies .south; north = ends };
-          })
-      by (inr h) =
-          inr (record {
-            cell = w .cell;
-            of = w .of;
-            is = w .is;
-            lies = record { west = w .lies .west; east = w .lies .east; south = h; north = w .lies .north };
-          })
+  module _ (finest : ℕ) where
+    -- The answer for ground that holds every wanted cell of a larger one is the answer for that
+    pub best-all : {r s : Rectangle} (choice : Choice) → Within r s → ((d : Cell) → Wanted corners from finest s d → Within (sidesOf d) r)
+        → Best corners from finest r choice → Best corners from finest s choice
+    best-all (At c) h all b = (wanted-within (omega arith) h (b .0), λ d w. b .1 d (wanted-part w (w .most) (all d w)))
+    best-all Nowhere h all b = λ d w. b d (wanted-part w (w .most) (all d w))
 
-  -- and west or east of such a longitude
-  lon-parts : (at : Lon) → lowSide level (at .0) ≡ at .0 → (d : Cell) → Wanted corners level r d
-      → (Wanted corners level (westOf r at) d) ⊎ (Wanted corners level (eastOf r at) d)
-  unfolding sidesOf
-  lon-parts at is d w = by (split level (at .0) (d .west .0) coarsest finest is (subst (λ (n : ℕ). lowSide n (d .west .0) ≡ d .west .0) (w .of) (w .cell .west)))
-    where
-      by : (highSide level (d .west .0) ≤ at .0) ⊎ (at .0 ≤ d .west .0)
-          → (Wanted corners level (westOf r at) d) ⊎ (Wanted corners level (eastOf r at) d)
-      by (inl h) =
-          let ends : highSide (d .level) (d .west .0) ≤ at .0 = subst (λ (n : ℕ). highSide n (d .west .0) ≤ at .0) (sym (w .of)) h in
-          inl (record {
-            cell = w .cell;
-            of = w .of;
-            is = w .is;
-            lies = record { west = w .lies .west; east = ends; south = w .lies .south; north = w .lies .north };
-          })
-      by (inr h) =
-          inr (record {
-            cell = w .cell;
-            of = w .of;
-            is = w .is;
-            lies = record { west = h; east = w .lies .east; south = w .lies .south; north = w .lies .north };
-          })
+    -- A cell of the coarsest level is the answer for all levels
+    pub best-here : {r : Rectangle} {c : Cell} → from ≤ finest → Best corners from from r (At c) → Best corners from finest r (At c)
+    best-here {r} {c} less b = (wanted-within less (omega arith) (b .0), λ d w l. b .1 d (wanted-part w (most d w l) (w .lies)) l)
+      where
+        most : (d : Cell) → Wanted corners from finest r d → Before d c → d .level ≤ from
+        most d w l = omega (arith, before-most d c l, b .0 .most)
 
-  -- So the leftmost of the answers south and north of a latitude is the answer for the whole
-  pub best-lat : (at : Lat) → lowSide level (at .0) ≡ at .0 → r .south .0 ≤ at .0 → at .0 ≤ r .north .0 → (a b : Choice)
-      → Best corners level (southOf r at) a → Best corners level (northOf r at) b → Best corners level r (lefter a b)
-  unfolding sidesOf
-  best-lat at is low high Nowhere Nowhere s n = λ d w. neither d (lat-parts at is d w)
-    where
-      neither : (d : Cell) → (Wanted corners level (southOf r at) d) ⊎ (Wanted corners level (northOf r at) d) → ⊥
-      neither d (inl w) = s d w
-      neither d (inr w) = n d w
-  best-lat at is low high Nowhere (At c) s n = (wanted-within (omega arith) (n .0), λ d w l. by d l (lat-parts at is d w))
-    where
-      by : (d : Cell) → Lefter d c → (Wanted corners level (southOf r at) d) ⊎ (Wanted corners level (northOf r at) d) → ⊥
-      by d l (inl w) = s d w
-      by d l (inr w) = n .1 d w l
-  best-lat at is low high (At c) Nowhere s n = (wanted-within (omega arith) (s .0), λ d w l. by d l (lat-parts at is d w))
-    where
-      by : (d : Cell) → Lefter d c → (Wanted corners level (southOf r at) d) ⊎ (Wanted corners level (northOf r at) d) → ⊥
-      by d l (inl w) = s .1 d w l
-      by d l (inr w) = n d w
-  best-lat at is low high (At c) (At d) s n = choose (ltb (d .west .0) (c .west .0)) refl
-    where
-      choose : (t : Bool) → ltb (d .west .0) (c .west .0) ≡ t → Best corners level r (cond t (At d) (At c))
-      choose true e = (wanted-within (omega arith) (n .0), λ x w l. by x l (lat-parts at is x w))
-        where
-          by : (x : Cell) → Lefter x d → (Wanted corners level (southOf r at) x) ⊎ (Wanted corners level (northOf r at) x) → ⊥
-          by x l (inl w) = s .1 x w (further l)
-            where
-              further : Lefter x d → Lefter x c
-              further (inl h) = inl (omega (arith, ltb-true (d .west .0) (c .west .0) e))
-              further (inr (h, k)) = inl (omega (arith, ltb-true (d .west .0) (c .west .0) e))
-          by x l (inr w) = n .1 x w l
-      choose false e = (wanted-within (omega arith) (s .0), λ x w l. by x l (lat-parts at is x w))
-        where
-          by : (x : Cell) → Lefter x c → (Wanted corners level (southOf r at) x) ⊎ (Wanted corners level (northOf r at) x) → ⊥
-          by x l (inl w) = s .1 x w l
-          by x (inl h) (inr w) = n .1 x w (inl (omega (arith, ltb-false (d .west .0) (c .west .0) e)))
-          by x (inr (h, k)) (inr w) =
-              omega (arith, cell-room c (s .0 .cell) .up, s .0 .lies .north, w .lies .south)
+    -- and where there is none of that level, the answer is that for the finer ones
+    pub best-below : (r : Rectangle) (choice : Choice) → Best corners from from r Nowhere → Best corners (from + 1) finest r choice
+        → Best corners from finest r choice
+    best-below r choice none = by choice
+      where
+        finer : (d : Cell) → Wanted corners from finest r d → Wanted corners (from + 1) finest r d
+        finer d w = at (either-way (d .level) from)
+          where
+            at : (d .level ≤ from) ⊎ (from < d .level) → Wanted corners (from + 1) finest r d
+            at (inl h) = absurd (none d (wanted-part w h (w .lies)))
+            at (inr h) = record { cell = w .cell; least = omega arith; most = w .most; is = w .is; lies = w .lies }
 
-  -- A cell that is found west of a longitude is the answer for the whole
-  pub best-west : (at : Lon) → lowSide level (at .0) ≡ at .0 → r .west .0 ≤ at .0 → at .0 ≤ r .east .0 → {c : Cell}
-      → Best corners level (westOf r at) (At c) → Best corners level r (At c)
-  unfolding sidesOf
-  best-west at is low high {c} s = (wanted-within (omega arith) (s .0), λ d w l. by d l (lon-parts at is d w))
-    where
-      by : (d : Cell) → Lefter d c → (Wanted corners level (westOf r at) d) ⊎ (Wanted corners level (eastOf r at) d) → ⊥
-      by d l (inl w) = s .1 d w l
-      by d (inl h) (inr w) = omega (arith, cell-room c (s .0 .cell) .across, s .0 .lies .east, w .lies .west)
-      by d (inr (h, k)) (inr w) = omega (arith, cell-room c (s .0 .cell) .across, s .0 .lies .east, w .lies .west)
+        by : (choice : Choice) → Best corners (from + 1) finest r choice → Best corners from finest r choice
+        by (At c) b = (
+          record { cell = b .0 .cell; least = omega (arith, b .0 .least); most = b .0 .most; is = b .0 .is; lies = b .0 .lies },
+          λ d w. b .1 d (finer d w),
+        )
+        by Nowhere b = λ d w. b d (finer d w)
 
-  -- and where there is none, the answer east of it is
-  pub best-east : (at : Lon) → lowSide level (at .0) ≡ at .0 → r .west .0 ≤ at .0 → at .0 ≤ r .east .0 → (b : Choice)
-      → Best corners level (westOf r at) Nowhere → Best corners level (eastOf r at) b → Best corners level r b
-  best-east at is low high (At c) s n = (wanted-within (omega arith) (n .0), λ d w l. by d l (lon-parts at is d w))
+-- Two parts of ground that hold all its wanted cells, where none of the second has the west side of one of the first and is lower
+record Parts (corners : List Point) (from finest : ℕ) (r p q : Rectangle) : Type 0 where
+  first : Within p r
+  second : Within q r
+  all : (d : Cell) → Wanted corners from finest r d → (Within (sidesOf d) p) ⊎ (Within (sidesOf d) q)
+  apart : (c d : Cell) → IsCell c → Within (sidesOf c) p → Within (sidesOf d) q → d .west .0 ≡ c .west .0 → d .south .0 < c .south .0 → ⊥
+
+-- A cell does not come before an answer
+abbrev Later : Choice → Cell → Type 0
+Later (At c) d = Before d c → ⊥
+Later Nowhere d = ⊥
+
+module _ {corners : List Point} {from finest limit : ℕ} {r p q : Rectangle} (parts : Parts corners from finest r p q) (less : limit ≤ finest) where
+  -- A wanted cell is one of the first part, or one of the second of a level up to a limit, or of a finer one
+  sorted : (d : Cell) → Wanted corners from finest r d
+      → (Wanted corners from finest p d) ⊎ ((Wanted corners from limit q d) ⊎ (Wanted corners from finest q d × (limit < d .level)))
+  sorted d w = at (parts .all d w) (either-way (d .level) limit)
     where
-      by : (d : Cell) → Lefter d c → (Wanted corners level (westOf r at) d) ⊎ (Wanted corners level (eastOf r at) d) → ⊥
-      by d l (inl w) = s d w
-      by d l (inr w) = n .1 d w l
-  best-east at is low high Nowhere s n = λ d w. by d (lon-parts at is d w)
+      at : (Within (sidesOf d) p) ⊎ (Within (sidesOf d) q) → (d .level ≤ limit) ⊎ (limit < d .level)
+          → (Wanted corners from finest p d) ⊎ ((Wanted corners from limit q d) ⊎ (Wanted corners from finest q d × (limit < d .level)))
+      at (inl lies) h = inl (wanted-part w (w .most) lies)
+      at (inr lies) (inl h) = inr (inl (wanted-part w h lies))
+      at (inr lies) (inr h) = inr (inr (wanted-part w (w .most) lies, h))
+
+  -- A cell of the second part that comes before one of the first comes before one that is not sooner
+  further : (x c e : Cell) → Wanted corners from finest p c → Wanted corners from limit q x → sooner e c ≡ false → Before x c → Before x e
+  further x c e s w t l = at l (not-sooner e c t)
     where
-      by : (d : Cell) → (Wanted corners level (westOf r at) d) ⊎ (Wanted corners level (eastOf r at) d) → ⊥
+      at : Before x c → (c .level < e .level) ⊎ ((c .level ≡ e .level) × (c .west .0 ≤ e .west .0)) → Before x e
+      at l (inl h) = let most = before-most x c l in inl (omega arith)
+      at (inl l) (inr (k, h)) = inl (omega arith)
+      at (inr (m, inl l)) (inr (k, h)) = inr (m ∙ k, inl (omega arith))
+      at (inr (m, inr (n, l))) (inr (k, h)) = absurd (parts .apart c x (s .cell) (s .lies) (w .lies) n l)
+
+  -- The answer for one part, and that for the other by the levels up to a limit, where finer cells there come no earlier, make the
+  -- answer for the whole
+  best-parts : (a b : Choice) → ((d : Cell) → Wanted corners from finest q d → limit < d .level → Later a d)
+      → Best corners from finest p a → Best corners from limit q b → Best corners from finest r (earlier a b)
+  best-parts Nowhere Nowhere past s n = λ d w. by d (sorted d w)
+    where
+      by : (d : Cell) → (Wanted corners from finest p d) ⊎ ((Wanted corners from limit q d) ⊎ (Wanted corners from finest q d × (limit < d .level))) → ⊥
       by d (inl w) = s d w
-      by d (inr w) = n d w
+      by d (inr (inl w)) = n d w
+      by d (inr (inr (w, h))) = past d w h
+  best-parts Nowhere (At e) past s n = (wanted-within less (parts .second) (n .0), λ d w l. by d l (sorted d w))
+    where
+      by : (d : Cell) → Before d e
+          → (Wanted corners from finest p d) ⊎ ((Wanted corners from limit q d) ⊎ (Wanted corners from finest q d × (limit < d .level))) → ⊥
+      by d l (inl w) = s d w
+      by d l (inr (inl w)) = n .1 d w l
+      by d l (inr (inr (w, h))) = past d w h
+  best-parts (At c) Nowhere past s n = (wanted-within (omega arith) (parts .first) (s .0), λ d w l. by d l (sorted d w))
+    where
+      by : (d : Cell) → Before d c
+          → (Wanted corners from finest p d) ⊎ ((Wanted corners from limit q d) ⊎ (Wanted corners from finest q d × (limit < d .level))) → ⊥
+      by d l (inl w) = s .1 d w l
+      by d l (inr (inl w)) = n d w
+      by d l (inr (inr (w, h))) = past d w h l
+  best-parts (At c) (At e) past s n = choose (sooner e c) refl
+    where
+      second : sooner e c ≡ true → (d : Cell) → Before d e
+          → (Wanted corners from finest p d) ⊎ ((Wanted corners from limit q d) ⊎ (Wanted corners from finest q d × (limit < d .level))) → ⊥
+      second t d l (inl w) = s .1 d w (before-then d e c l (sooner-before e c t))
+      second t d l (inr (inl w)) = n .1 d w l
+      second t d l (inr (inr (w, h))) = omega (arith, before-most d e l, n .0 .most)
+
+      first : sooner e c ≡ false → (d : Cell) → Before d c
+          → (Wanted corners from finest p d) ⊎ ((Wanted corners from limit q d) ⊎ (Wanted corners from finest q d × (limit < d .level))) → ⊥
+      first t d l (inl w) = s .1 d w l
+      first t d l (inr (inl w)) = n .1 d w (further d c e (s .0) w t l)
+      first t d l (inr (inr (w, h))) = past d w h l
+
+      choose : (t : Bool) → sooner e c ≡ t → Best corners from finest r (cond t (At e) (At c))
+      choose true t = (wanted-within less (parts .second) (n .0), λ d w l. second t d l (sorted d w))
+      choose false t = (wanted-within (omega arith) (parts .first) (s .0), λ d w l. first t d l (sorted d w))
+
+-- A low side of the coarsest level is one of each wanted cell's level
+wanted-side : {corners : List Point} {from finest : ℕ} {r : Rectangle} (d : Cell) → 9 ≤ from → {a : ℕ} → lowSide from a ≡ a
+    → Wanted corners from finest r d → lowSide (d .level) a ≡ a
+wanted-side {from = from} d coarsest {a} is w = low-finer from (d .level) a coarsest (w .least) (w .cell .finest) is
+
+module _ (corners : List Point) (from finest : ℕ) (coarsest : 9 ≤ from) (r : Rectangle) where
+  -- The parts south and north of a latitude that is a low side of the coarsest level
+  lat-parts : (at : Lat) → lowSide from (at .0) ≡ at .0 → r .south .0 ≤ at .0 → at .0 ≤ r .north .0
+      → Parts corners from finest r (southOf r at) (northOf r at)
+  unfolding sidesOf
+  lat-parts at is low high =
+      record {
+        first = omega arith;
+        second = omega arith;
+        all = λ d w. by d w (split (d .level) (at .0) (d .south .0) (w .cell .coarsest) (w .cell .finest) (wanted-side d coarsest is w) (w .cell .south));
+        apart = λ c d k p q e h. omega (arith, cell-room c k .up, p .north, q .south);
+      }
+    where
+      by : (d : Cell) → Wanted corners from finest r d → (highSide (d .level) (d .south .0) ≤ at .0) ⊎ (at .0 ≤ d .south .0)
+          → (Within (sidesOf d) (southOf r at)) ⊎ (Within (sidesOf d) (northOf r at))
+      by d w (inl h) = inl (record { west = w .lies .west; east = w .lies .east; south = w .lies .south; north = h })
+      by d w (inr h) = inr (record { west = w .lies .west; east = w .lies .east; south = h; north = w .lies .north })
+
+  -- and west and east of such a longitude
+  lon-parts : (at : Lon) → lowSide from (at .0) ≡ at .0 → r .west .0 ≤ at .0 → at .0 ≤ r .east .0
+      → Parts corners from finest r (westOf r at) (eastOf r at)
+  unfolding sidesOf
+  lon-parts at is low high =
+      record {
+        first = omega arith;
+        second = omega arith;
+        all = λ d w. by d w (split (d .level) (at .0) (d .west .0) (w .cell .coarsest) (w .cell .finest) (wanted-side d coarsest is w) (w .cell .west));
+        apart = λ c d k p q e h. omega (arith, cell-room c k .across, p .east, q .west);
+      }
+    where
+      by : (d : Cell) → Wanted corners from finest r d → (highSide (d .level) (d .west .0) ≤ at .0) ⊎ (at .0 ≤ d .west .0)
+          → (Within (sidesOf d) (westOf r at)) ⊎ (Within (sidesOf d) (eastOf r at))
+      by d w (inl h) = inl (record { west = w .lies .west; east = h; south = w .lies .south; north = w .lies .north })
+      by d w (inr h) = inr (record { west = h; east = w .lies .east; south = w .lies .south; north = w .lies .north })
+
+  -- North of what was found a cell comes earlier only where it is of no finer level
+  pub best-lat : (at : Lat) → lowSide from (at .0) ≡ at .0 → r .south .0 ≤ at .0 → at .0 ≤ r .north .0 → (a b : Choice)
+      → Best corners from finest (southOf r at) a → Best corners from (levelOf a finest) (northOf r at) b → Best corners from finest r (earlier a b)
+  best-lat at is low high a b s = best-parts (lat-parts at is low high) (most a s) a b (past a) s
+    where
+      most : (a : Choice) → Best corners from finest (southOf r at) a → levelOf a finest ≤ finest
+      most (At c) s = s .0 .most
+      most Nowhere s = omega arith
+
+      past : (a : Choice) (d : Cell) → Wanted corners from finest (northOf r at) d → levelOf a finest < d .level → Later a d
+      past (At c) d w h = λ l. omega (arith, before-most d c l)
+      past Nowhere d w h = omega (arith, w .most)
+
+  -- and east of it only where it is of a coarser one
+  pub best-lon : (at : Lon) → lowSide from (at .0) ≡ at .0 → r .west .0 ≤ at .0 → at .0 ≤ r .east .0 → (a b : Choice)
+      → Best corners from finest (westOf r at) a → Best corners from (levelOf a (finest + 1) - 1) (eastOf r at) b
+      → Best corners from finest r (earlier a b)
+  unfolding sidesOf
+  best-lon at is low high a b s = best-parts (lon-parts at is low high) (most a s) a b (past a s) s
+    where
+      most : (a : Choice) → Best corners from finest (westOf r at) a → levelOf a (finest + 1) - 1 ≤ finest
+      most (At c) s = omega (arith, s .0 .most)
+      most Nowhere s = omega arith
+
+      past : (a : Choice) → Best corners from finest (westOf r at) a → (d : Cell) → Wanted corners from finest (eastOf r at) d
+          → levelOf a (finest + 1) - 1 < d .level → Later a d
+      past (At c) s d w h = not-west
+        where
+          not-west : Before d c → ⊥
+          not-west (inl l) = omega arith
+          not-west (inr (e, inl l)) = omega (arith, cell-room c (s .0 .cell) .across, s .0 .lies .east, w .lies .west)
+          not-west (inr (e, inr (k, l))) = omega (arith, cell-room c (s .0 .cell) .across, s .0 .lies .east, w .lies .west)
+      past Nowhere s d w h = omega (arith, w .most)
+
+  -- so that what is of the coarsest level is the answer for the whole
+  pub best-west : (at : Lon) → lowSide from (at .0) ≡ at .0 → r .west .0 ≤ at .0 → at .0 ≤ r .east .0 → (a : Choice)
+      → Best corners from finest (westOf r at) a → levelOf a (finest + 1) - 1 < from → Best corners from finest r a
+  best-west at is low high (At c) s h = best-lon at is low high (At c) Nowhere s λ d w. omega (arith, w .least, w .most)
+  best-west at is low high Nowhere s h = best-lon at is low high Nowhere Nowhere s λ d w. omega (arith, w .least, w .most)
+
+  -- Where all levels are searched in both parts, the first of the two answers is that for the whole
+  best-both : {p q : Rectangle} → Parts corners from finest r p q → (a b : Choice)
+      → Best corners from finest p a → Best corners from finest q b → Best corners from finest r (earlier a b)
+  best-both parts a b = best-parts parts (omega arith) a b λ d w h. let none : ⊥ = omega (arith, w .most) in absurd none
+
+  pub best-north : (at : Lat) → lowSide from (at .0) ≡ at .0 → r .south .0 ≤ at .0 → at .0 ≤ r .north .0 → (a b : Choice)
+      → Best corners from finest (southOf r at) a → Best corners from finest (northOf r at) b → Best corners from finest r (earlier a b)
+  best-north at is low high = best-both (lat-parts at is low high)
+
+  pub best-east : (at : Lon) → lowSide from (at .0) ≡ at .0 → r .west .0 ≤ at .0 → at .0 ≤ r .east .0 → (a b : Choice)
+      → Best corners from finest (westOf r at) a → Best corners from finest (eastOf r at) b → Best corners from finest r (earlier a b)
+  best-east at is low high = best-both (lon-parts at is low high)

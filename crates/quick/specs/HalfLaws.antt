@@ -15,14 +15,14 @@ use Rattle.ground.specs.Levels.{latEnd, lonEnd}
 use Rattle.ground.specs.Cells.{lowSide, highSide, sidesOf, centreOf, IsCell}
 use Rattle.ground.specs.CellTest.{low-below-high}
 use Rattle.ground.specs.Sides.{none-between}
-use Rattle.ground.specs.Halves.{Span, low-finer, low-half, half-most, high-half, whole-half}
+use Rattle.ground.specs.Halves.{Span, low-half, half-most, high-half, whole-half}
 use Rattle.boundary.specs.Boundary.{edgesOf, pointInside, unmet, inside}
 use Rattle.boundary.specs.Corners.{cornersOf}
 use Rattle.boundary.specs.Missing.{Within}
 use Rattle.boundary.specs.Parity.{Lies, same-inside}
 use Rattle.boundary.specs.Inner.{centre-lies}
 use Rattle.unit.specs.declared.Choice.the-variants.{At, Nowhere}
-use Rattle.unit.specs.Chosen.{Lefter}
+use Rattle.unit.specs.Chosen.{Before}
 use Rattle.quick.specs.declared.half.Half.{Half}
 use Rattle.quick.specs.Kept.{southWest, Sound, Part}
 use Rattle.quick.specs.Best.{Wanted, Best, southOf, northOf, westOf, eastOf, passesOver}
@@ -136,16 +136,17 @@ module _ (corners : List Point) {level : ℕ} {r : Rectangle} (b : ByLat level 0
           absurd none
 
   -- so that it is that cell
-  pub only-cell : (d : Cell) → Wanted corners level r d → d ≡ cellOf level r
+  pub only-cell : (d : Cell) → Wanted corners level level r d → d ≡ cellOf level r
   unfolding sidesOf
   only-cell d w =
+      let of : d .level ≡ level = omega (arith, w .least, w .most) in
       let west : d .west .0 ≡ r .west .0 =
-      one-side lon-span (subst (λ (n : ℕ). lowSide n (d .west .0) ≡ d .west .0) (w .of) (w .cell .west)) (w .lies .west)
-      (subst (λ (n : ℕ). highSide n (d .west .0) ≤ r .east .0) (w .of) (w .lies .east)) in
+      one-side lon-span (subst (λ (n : ℕ). lowSide n (d .west .0) ≡ d .west .0) of (w .cell .west)) (w .lies .west)
+      (subst (λ (n : ℕ). highSide n (d .west .0) ≤ r .east .0) of (w .lies .east)) in
       let south : d .south .0 ≡ r .south .0 =
-      one-side lat-span (subst (λ (n : ℕ). lowSide n (d .south .0) ≡ d .south .0) (w .of) (w .cell .south)) (w .lies .south)
-      (subst (λ (n : ℕ). highSide n (d .south .0) ≤ r .north .0) (w .of) (w .lies .north)) in
-      λ i. record { level = w .of i; west = record { 0 = west i }; south = record { 0 = south i } }
+      one-side lat-span (subst (λ (n : ℕ). lowSide n (d .south .0) ≡ d .south .0) of (w .cell .south)) (w .lies .south)
+      (subst (λ (n : ℕ). highSide n (d .south .0) ≤ r .north .0) of (w .lies .north)) in
+      λ i. record { level = of i; west = record { 0 = west i }; south = record { 0 = south i } }
 
   -- What the boundary says of the ground it says of the cell
   cell-inside : {t : Bool} → (unmet r (edgesOf corners) && pointInside (centreOf r) (edgesOf corners)) ≡ t → inside corners (cellOf level r) ≡ t
@@ -153,18 +154,19 @@ module _ (corners : List Point) {level : ℕ} {r : Rectangle} (b : ByLat level 0
   cell-inside e = ap (λ (x : Rectangle). unmet x (edgesOf corners) && pointInside (centreOf x) (edgesOf corners)) ground-cell ∙ e
 
   -- So the answer for it is the cell, if it is inside
-  pub best-cell : (unmet r (edgesOf corners) && pointInside (centreOf r) (edgesOf corners)) ≡ true → Best corners level r (At (cellOf level r))
+  pub best-cell : (unmet r (edgesOf corners) && pointInside (centreOf r) (edgesOf corners)) ≡ true → Best corners level level r (At (cellOf level r))
   unfolding sidesOf
   best-cell e = (
-    record { cell = cell-cell; of = refl; is = cell-inside e; lies = subst (λ (x : Rectangle). Within x r) (sym ground-cell) (omega arith) },
-    λ d w l. not-lefter d w l,
+    record { cell = cell-cell; least = omega arith; most = omega arith; is = cell-inside e; lies = subst (λ (x : Rectangle). Within x r) (sym ground-cell) (omega arith) },
+    λ d w l. not-before d w l,
   )
     where
-      not-lefter : (d : Cell) → Wanted corners level r d → Lefter d (cellOf level r) → ⊥
-      not-lefter d w (inl k) = omega (arith, w .lies .west)
-      not-lefter d w (inr (k, m)) = omega (arith, w .lies .south)
+      not-before : (d : Cell) → Wanted corners level level r d → Before d (cellOf level r) → ⊥
+      not-before d w (inl k) = omega (arith, w .least)
+      not-before d w (inr (e, inl k)) = omega (arith, w .lies .west)
+      not-before d w (inr (e, inr (k, m))) = omega (arith, w .lies .south)
 
-  pub best-no-cell : (unmet r (edgesOf corners) && pointInside (centreOf r) (edgesOf corners)) ≡ false → Best corners level r Nowhere
+  pub best-no-cell : (unmet r (edgesOf corners) && pointInside (centreOf r) (edgesOf corners)) ≡ false → Best corners level level r Nowhere
   best-no-cell e d w = true≢false (sym (w .is) ∙ ap (inside corners) (only-cell d w) ∙ cell-inside e)
 
 -- A length of ground in one direction that is halved: where the halves meet, and what they are
@@ -193,7 +195,7 @@ halved n coarsest finest {a} {b} {at} s e other =
 -- The halves of ground by latitude
 pub record LatHalves (level left : ℕ) (r : Rectangle) (at : Lat) : Type 0 where
   pub between : (r .south .0 < at .0) × (at .0 < r .north .0)
-  pub side : lowSide level (at .0) ≡ at .0
+  pub side : lowSide (level - (left - 1) / 2) (at .0) ≡ at .0
   pub south : ByLon level (left - 1) (southOf r at)
   pub north : ByLon level (left - 1) (northOf r at)
 
@@ -225,7 +227,7 @@ module _ {level left : ℕ} {r : Rectangle} (b : ByLat level left r) (some : 0 <
       let h = halved (level - left / 2) (omega (arith, b .coarsest)) (omega (arith, b .even, b .finest)) (b .lat) e other in
       record {
         between = (h .low, h .high);
-        side = low-finer (level - left / 2 + 1) level (at .0) (omega (arith, b .coarsest)) (omega (arith, b .even)) (b .finest) (h .second .low);
+        side = subst (λ (n : ℕ). lowSide n (at .0) ≡ at .0) finer-lat (h .second .low);
         south = by-lon-of (h .first) (omega (arith, h .high, b .north-end));
         north = by-lon-of (h .second) (b .north-end);
       }
@@ -239,7 +241,7 @@ module _ {level left : ℕ} {r : Rectangle} (b : ByLat level left r) (some : 0 <
 -- The halves of ground by longitude
 pub record LonHalves (level left : ℕ) (r : Rectangle) (at : Lon) : Type 0 where
   pub between : (r .west .0 < at .0) × (at .0 < r .east .0)
-  pub side : lowSide level (at .0) ≡ at .0
+  pub side : lowSide (level - left / 2) (at .0) ≡ at .0
   pub west : ByLat level (left - 1) (westOf r at)
   pub east : ByLat level (left - 1) (eastOf r at)
 
@@ -273,8 +275,7 @@ module _ {level left : ℕ} {r : Rectangle} (b : ByLon level left r) {at : Lon} 
       let h = halved (level - left / 2 - 1) (omega (arith, b .coarsest)) (omega (arith, b .coarsest, b .finest)) (b .lon) split-lon other in
       record {
         between = (h .low, h .high);
-        side =
-            low-finer (level - left / 2 - 1 + 1) level (at .0) (omega (arith, b .coarsest)) (omega (arith, b .coarsest)) (b .finest) (h .second .low);
+        side = subst (λ (n : ℕ). lowSide n (at .0) ≡ at .0) finer-lon (h .second .low);
         west = by-lat-of (h .first) (omega (arith, h .high, b .east-end));
         east = by-lat-of (h .second) (b .east-end);
       }

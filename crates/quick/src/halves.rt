@@ -26,24 +26,24 @@ fn split(level: u32, low: u32, high: u32) -> u32
 }
 
 // The latitude at which ground is halved; its north side where it is not.
-pub(crate) fn lat_split(r: Rectangle, level: u32, left: u32) -> Lat
-    requires { ⌜ ByLat level left r ⌝ }
+pub(crate) fn lat_split(r: Rectangle, finest: u32, left: u32) -> Lat
+    requires { ⌜ ByLat finest left r ⌝ }
     requires { ⌜ 0 < left ⌝ }
-    ensures { λ at. ⌜ at .0 ≡ highSide (level - left / 2 + 1) (r .south .0) ⌝ }
+    ensures { λ at. ⌜ at .0 ≡ highSide (finest - left / 2 + 1) (r .south .0) ⌝ }
 {
     let south = r.south;
     let north = r.north;
-    Lat(split(level - left / 2 + 1, south.0, north.0))
+    Lat(split(finest - left / 2 + 1, south.0, north.0))
 }
 
 // The longitude at which ground is halved; its east side where it is not.
-pub(crate) fn lon_split(r: Rectangle, level: u32, left: u32) -> Lon
-    requires { ⌜ ByLon level left r ⌝ }
-    ensures { λ at. ⌜ at .0 ≡ highSide (level - left / 2) (r .west .0) ⌝ }
+pub(crate) fn lon_split(r: Rectangle, finest: u32, left: u32) -> Lon
+    requires { ⌜ ByLon finest left r ⌝ }
+    ensures { λ at. ⌜ at .0 ≡ highSide (finest - left / 2) (r .west .0) ⌝ }
 {
     let west = r.west;
     let east = r.east;
-    Lon(split(level - left / 2, west.0, east.0))
+    Lon(split(finest - left / 2, west.0, east.0))
 }
 
 // A part of a half with its south-west corner: the count there is the whole's.

@@ -1,9 +1,11 @@
-// The search for the leftmost, then lowest inside cell of one level, by halving ground by latitude,
-// then by longitude, in turn. Halves that cannot hold a wanted cell are passed over.
+// The search for the first inside cell, by level, then west side, then south side, by halving ground by
+// latitude, then by longitude, in turn. Halves that cannot hold a wanted cell are passed over, and once
+// a cell is found, only cells that would come before it are looked for.
+ghost use Prim.Native.Nat.{_-_, _/_};
 ghost use mathlib.Core.Path.{_≡_};
 ghost use Rattle.boundary.specs.Corners.{cornersOf};
 ghost use Rattle.quick.specs.Kept.{Same, Sound};
-ghost use Rattle.quick.specs.Best.{Best, lefter as Best·lefter, passesOver};
+ghost use Rattle.quick.specs.Best.{Best, passesOver, sooner as Best·sooner, earlier as Best·earlier, levelOf};
 ghost use Rattle.quick.specs.Asked.{ByLat, ByLon};
 use crate::half::Half;
 use crate::half::east_of;
@@ -34,7 +36,7 @@ fn passed_over(numbers: &[u32], room: &[u16], half: Half) -> bool
 fn tried(numbers: &[u32], room: &[u16], half: Half, level: u32) -> Choice
     requires { ⌜ Sound (now numbers) (now room) half ⌝ }
     requires { ⌜ ByLat level 0 (half .ground) ⌝ }
-    ensures { λ c. ⌜ Best (cornersOf (now (numbers .entry))) level (half .ground) c ⌝ }
+    ensures { λ c. ⌜ Best (cornersOf (now (numbers .entry))) level level (half .ground) c ⌝ }
 {
     if half.odd && unmet(numbers, room, half) {
         let ground = half.ground;
@@ -45,9 +47,21 @@ fn tried(numbers: &[u32], room: &[u16], half: Half, level: u32) -> Choice
     Choice::Nowhere
 }
 
-// The leftmost of two cells, the first of them where both have the same west side.
-pub(crate) fn lefter(first: Choice, second: Choice) -> Choice
-    ensures { λ c. ⌜ c ≡ Best·lefter first second ⌝ }
+// Whether a cell is of a lower level number than another, or of the same and further west.
+fn sooner(d: Cell, c: Cell) -> bool
+    ensures { λ s. ⌜ s ≡ Best·sooner d c ⌝ }
+{
+    let d_west = d.west;
+    let c_west = c.west;
+    if d.level == c.level {
+        return d_west.0 < c_west.0;
+    }
+    d.level < c.level
+}
+
+// The first of two answers, where a later cell of the same level and west side is no lower.
+pub(crate) fn earlier(first: Choice, second: Choice) -> Choice
+    ensures { λ c. ⌜ c ≡ Best·earlier first second ⌝ }
 {
     let Choice::At(c) = first else {
         return second;
@@ -55,44 +69,68 @@ pub(crate) fn lefter(first: Choice, second: Choice) -> Choice
     let Choice::At(d) = second else {
         return Choice::At(c);
     };
-    let c_west = c.west;
-    let d_west = d.west;
-    if d_west.0 < c_west.0 {
+    if sooner(d, c) {
         return Choice::At(d);
     }
     Choice::At(c)
 }
 
-// Halves by latitude, and goes on by longitude.
-pub(crate) fn by_lat(numbers: &[u32], room: &mut [u16], half: Half, level: u32, left: u32) -> Choice
+// The level of a cell that is found, or another number.
+pub(crate) fn level_of(found: Choice, none: u32) -> u32
+    ensures { λ l. ⌜ l ≡ levelOf found none ⌝ }
+{
+    let Choice::At(c) = found else {
+        return none;
+    };
+    c.level
+}
+
+// Halves by latitude, and goes on by longitude. North of what is found a cell comes earlier only where
+// it is of no finer level.
+pub(crate) fn by_lat(
+    numbers: &[u32],
+    room: &mut [u16],
+    half: Half,
+    finest: u32,
+    left: u32,
+) -> Choice
     requires { ⌜ Sound (now numbers) (now room) half ⌝ }
-    requires { ⌜ ByLat level left (half .ground) ⌝ }
-    ensures { λ c. ⌜ Best (cornersOf (now (numbers .entry))) level (half .ground) c ⌝ }
+    requires { ⌜ ByLat finest left (half .ground) ⌝ }
+    ensures { λ c. ⌜ Best (cornersOf (now (numbers .entry))) (finest - left / 2) finest (half .ground) c ⌝ }
     ensures { λ _. ⌜ Same (half .to) (now (room .entry)) (now (room .exit)) ⌝ }
 {
     if passed_over(numbers, room, half) {
         return Choice::Nowhere;
     }
+    let here = tried(numbers, room, half, finest - left / 2);
+    if let Choice::At(c) = here {
+        return Choice::At(c);
+    }
     if left == 0 {
-        return tried(numbers, room, half, level);
+        return Choice::Nowhere;
     }
     let ground = half.ground;
     let north = ground.north;
-    let at = lat_split(ground, level, left);
+    let at = lat_split(ground, finest, left);
     if at.0 == north.0 {
-        return by_lon(numbers, room, half, level, left - 1);
+        return by_lon(numbers, room, half, finest, left - 1);
     }
     let low = same_corner(numbers, room, half, south_of(ground, at));
-    let first = by_lon(numbers, room, low, level, left - 1);
+    let first = by_lon(numbers, room, low, finest, left - 1);
+    let limit = level_of(first, finest);
     let high = other_corner(numbers, room, half, north_of(ground, at));
-    lefter(first, by_lon(numbers, room, high, level, left - 1))
+    earlier(
+        first,
+        by_lon(numbers, room, high, limit, left - 1 - 2 * (finest - limit)),
+    )
 }
 
-// Halves by longitude, and goes on by latitude.
-fn by_lon(numbers: &[u32], room: &mut [u16], half: Half, level: u32, left: u32) -> Choice
+// Halves by longitude, and goes on by latitude. East of what is found a cell comes earlier only where it
+// is of a coarser level.
+fn by_lon(numbers: &[u32], room: &mut [u16], half: Half, finest: u32, left: u32) -> Choice
     requires { ⌜ Sound (now numbers) (now room) half ⌝ }
-    requires { ⌜ ByLon level left (half .ground) ⌝ }
-    ensures { λ c. ⌜ Best (cornersOf (now (numbers .entry))) level (half .ground) c ⌝ }
+    requires { ⌜ ByLon finest left (half .ground) ⌝ }
+    ensures { λ c. ⌜ Best (cornersOf (now (numbers .entry))) (finest - left / 2) finest (half .ground) c ⌝ }
     ensures { λ _. ⌜ Same (half .to) (now (room .entry)) (now (room .exit)) ⌝ }
 {
     if passed_over(numbers, room, half) {
@@ -100,15 +138,19 @@ fn by_lon(numbers: &[u32], room: &mut [u16], half: Half, level: u32, left: u32) 
     }
     let ground = half.ground;
     let east = ground.east;
-    let at = lon_split(ground, level, left);
+    let at = lon_split(ground, finest, left);
     if at.0 == east.0 {
-        return by_lat(numbers, room, half, level, left - 1);
+        return by_lat(numbers, room, half, finest, left - 1);
     }
     let low = same_corner(numbers, room, half, west_of(ground, at));
-    let first = by_lat(numbers, room, low, level, left - 1);
-    if let Choice::At(c) = first {
-        return Choice::At(c);
+    let first = by_lat(numbers, room, low, finest, left - 1);
+    let limit = level_of(first, finest + 1) - 1;
+    if limit < finest - left / 2 {
+        return first;
     }
     let high = other_corner(numbers, room, half, east_of(ground, at));
-    by_lat(numbers, room, high, level, left - 1)
+    earlier(
+        first,
+        by_lat(numbers, room, high, limit, left - 1 - 2 * (finest - limit)),
+    )
 }

@@ -1,6 +1,6 @@
-// The search for the chosen cell: the levels in turn whose cells can fit the extents. Near levels, of
-// which few cells lie over the extents, go cell by cell; the others by halving the cells of a coarser
-// level that lie over the extents.
+// The search for the chosen cell, from the first level whose cells can fit the extents. Near levels, of
+// which few cells lie over the extents, go cell by cell, in turn; the others together, by halving the
+// cells of a coarser level that lie over the extents.
 ghost use Prim.Native.Nat.{_/_, _≤_, _<_};
 ghost use mathlib.Core.Path.{_≡_};
 ghost use lib.ListN.{length};
@@ -12,7 +12,8 @@ ghost use Rattle.quick.specs.Asked.{Levels, Ground, Column, column, ever
 use crate::half::Half;
 use crate::half::corner_of;
 use crate::halving::by_lat;
-use crate::halving::lefter;
+use crate::halving::earlier;
+use crate::halving::level_of;
 use crate::kept::list_all;
 use ground::Cell;
 use ground::Lat;
@@ -105,7 +106,7 @@ fn at_once(numbers: &[u32], r: Rectangle, cell: Rectangle, level: u32) -> Choice
     requires { ⌜ Over (cornersOf (now numbers)) r ⌝ }
     requires { ⌜ (9 ≤ level) × (level ≤ 27) ⌝ }
     requires { ⌜ Ground level cell ⌝ }
-    ensures { λ c. ⌜ Best (cornersOf (now (numbers .entry))) level cell c ⌝ }
+    ensures { λ c. ⌜ Best (cornersOf (now (numbers .entry))) level level cell c ⌝ }
 {
     if !fits(cell, r) {
         return Choice::Nowhere;
@@ -118,24 +119,24 @@ fn at_once(numbers: &[u32], r: Rectangle, cell: Rectangle, level: u32) -> Choice
     Choice::Nowhere
 }
 
-// The first of a level in one cell of it, or of a coarser level.
+// The first cell of the levels from one to another in a cell of the first of them.
 fn in_cell(
     numbers: &[u32],
     room: &mut [u16],
     r: Rectangle,
     cell: Rectangle,
-    level: u32,
+    finest: u32,
     top: u32,
 ) -> Choice
-    requires { ⌜ Ready (now numbers) (now room) level top ⌝ }
+    requires { ⌜ Ready (now numbers) (now room) finest top ⌝ }
     requires { ⌜ Over (cornersOf (now numbers)) r ⌝ }
-    requires { ⌜ Levels level top ⌝ }
+    requires { ⌜ Levels finest top ⌝ }
     requires { ⌜ Ground top cell ⌝ }
-    ensures { λ c. ⌜ Best (cornersOf (now (numbers .entry))) level cell c ⌝ }
+    ensures { λ c. ⌜ Best (cornersOf (now (numbers .entry))) top finest cell c ⌝ }
     ensures { λ _. ⌜ StillListed (now (numbers .entry)) (now (room .entry)) (now (room .exit)) ⌝ }
 {
-    if top == level {
-        return at_once(numbers, r, cell, level);
+    if top == finest {
+        return at_once(numbers, r, cell, top);
     }
     let half = Half {
         ground: cell,
@@ -143,25 +144,24 @@ fn in_cell(
         from: 0,
         to: numbers.len() / 2,
     };
-    by_lat(numbers, room, half, level, 2 * (level - top))
+    by_lat(numbers, room, half, finest, 2 * (finest - top))
 }
 
-// The first of a level between two sides of it, or of a coarser level: that level's south sides in
-// turn.
+// The first between two sides of the coarsest level: that level's south sides in turn.
 fn in_column(
     numbers: &[u32],
     room: &mut [u16],
     r: Rectangle,
-    level: u32,
+    finest: u32,
     top: u32,
     west: Lon,
     east: Lon,
 ) -> Choice
-    requires { ⌜ Ready (now numbers) (now room) level top ⌝ }
+    requires { ⌜ Ready (now numbers) (now room) finest top ⌝ }
     requires { ⌜ Over (cornersOf (now numbers)) r ⌝ }
-    requires { ⌜ Levels level top ⌝ }
+    requires { ⌜ Levels finest top ⌝ }
     requires { ⌜ Column top west east ⌝ }
-    ensures { λ c. ⌜ Best (cornersOf (now (numbers .entry))) level (column west east) c ⌝ }
+    ensures { λ c. ⌜ Best (cornersOf (now (numbers .entry))) top finest (column west east) c ⌝ }
     ensures { λ _. ⌜ StillListed (now (numbers .entry)) (now (room .entry)) (now (room .exit)) ⌝ }
 {
     let from = r.south;
@@ -176,36 +176,45 @@ fn in_column(
             south: Lat(south),
             north: Lat(north),
         };
-        found = lefter(found, in_cell(numbers, room, r, cell, level, top));
+        found = earlier(found, in_cell(numbers, room, r, cell, finest, top));
         south = north;
     }
     found
 }
 
-// The first of a level: its own west sides, or a coarser level's, in turn.
-fn in_level(numbers: &[u32], room: &mut [u16], r: Rectangle, level: u32, top: u32) -> Choice
-    requires { ⌜ Ready (now numbers) (now room) level top ⌝ }
+// The first of the levels from one to another: the first level's west sides in turn. What is of that
+// level is not bettered further east.
+fn in_levels(numbers: &[u32], room: &mut [u16], r: Rectangle, finest: u32, top: u32) -> Choice
+    requires { ⌜ Ready (now numbers) (now room) finest top ⌝ }
     requires { ⌜ Over (cornersOf (now numbers)) r ⌝ }
-    requires { ⌜ Levels level top ⌝ }
-    ensures { λ c. ⌜ Best (cornersOf (now (numbers .entry))) level everywhere c ⌝ }
-    ensures { λ _. ⌜ StillListed (now (numbers .entry)) (now (room .entry)) (now (room .exit)) ⌝ }
+    requires { ⌜ Levels finest top ⌝ }
+    ensures { λ c. ⌜ Best (cornersOf (now (numbers .entry))) top finest everywhere c ⌝ }
 {
     let from = r.west;
     let to = r.east;
+    let mut found = Choice::Nowhere;
     let mut west = ground::low_side(top, from.0);
     while west < to.0 {
         let east = ground::high_side(top, west) as u32;
-        let found = in_column(numbers, room, r, level, top, Lon(west), Lon(east));
-        if let Choice::At(c) = found {
-            return Choice::At(c);
+        found = earlier(
+            found,
+            in_column(numbers, room, r, finest, top, Lon(west), Lon(east)),
+        );
+        if level_of(found, 28) == top {
+            return found;
         }
         west = east;
     }
-    Choice::Nowhere
+    found
 }
 
-// Up to so many cells of a near level lie over an extent in a row.
-const NEAR: u32 = 16;
+// Up to how many cells of a near level lie over an extent in a row: fewer for a long list of corners, of
+// which each near cell tries all. It only decides what a search costs, and nothing is promised of it.
+fn reach(corners: usize) -> u32
+    ensures { λ n. ⌜ 0 < n ⌝ }
+{
+    if 256 < corners { 6 } else { 16 }
+}
 
 // What the near levels tell: the chosen cell, or the level to go on with.
 pub enum Nearby {
@@ -217,10 +226,10 @@ pub enum Nearby {
 fn near_level(numbers: &[u32], r: Rectangle, level: u32) -> Choice
     requires { ⌜ Over (cornersOf (now numbers)) r ⌝ }
     requires { ⌜ Levels level level ⌝ }
-    ensures { λ c. ⌜ Best (cornersOf (now (numbers .entry))) level everywhere c ⌝ }
+    ensures { λ c. ⌜ Best (cornersOf (now (numbers .entry))) level level everywhere c ⌝ }
 {
     let mut none = [0u16; 1];
-    in_level(numbers, &mut none, r, level, level)
+    in_levels(numbers, &mut none, r, level, level)
 }
 
 // Searches the levels of which few cells lie over the extents, cell by cell.
@@ -231,7 +240,7 @@ pub(crate) fn near(numbers: &[u32], r: Rectangle) -> Nearby
 {
     let mut level = first_level(r);
     while level < 28 {
-        if short(r, level, NEAR) {
+        if short(r, level, reach(numbers.len() / 2)) {
             return Nearby::Next(level);
         }
         let found = near_level(numbers, r, level);
@@ -243,7 +252,7 @@ pub(crate) fn near(numbers: &[u32], r: Rectangle) -> Nearby
     Nearby::Next(level)
 }
 
-// The chosen cell: levels from one up to 27 in turn, by halving.
+// The chosen cell, where none of a level before one is inside: the levels up to 27 by halving.
 pub(crate) fn far(numbers: &[u32], room: &mut [u16], r: Rectangle, start: u32) -> Choice
     requires { ⌜ length (now numbers) / 2 ≤ length (now room) ⌝ }
     requires { ⌜ length (now numbers) / 2 ≤ 1024 ⌝ }
@@ -252,14 +261,9 @@ pub(crate) fn far(numbers: &[u32], room: &mut [u16], r: Rectangle, start: u32) -
     requires { ⌜ NoneInside (cornersOf (now numbers)) start ⌝ }
     ensures { λ c. ⌜ c ≡ choose (cornersOf (now (numbers .entry))) ⌝ }
 {
-    list_all(numbers, room);
-    let mut level = start;
-    while level < 28 {
-        let found = in_level(numbers, room, r, level, top_of(r, level));
-        if let Choice::At(c) = found {
-            return Choice::At(c);
-        }
-        level += 1;
+    if 27 < start {
+        return Choice::Nowhere;
     }
-    Choice::Nowhere
+    list_all(numbers, room);
+    in_levels(numbers, room, r, 27, top_of(r, start))
 }
