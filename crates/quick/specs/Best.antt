@@ -179,6 +179,12 @@ module _ {corners : List Point} {from : ℕ} where
         )
         by Nowhere b = λ d w. b d (finer d w)
 
+-- The level of an answer is one of those that were searched, or the other number
+pub level-between : (corners : List Point) (from finest : ℕ) (r : Rectangle) (none : ℕ) (a : Choice) → Best corners from finest r a
+    → from ≤ none → finest ≤ none → (from ≤ levelOf a none) × (levelOf a none ≤ none)
+level-between corners from finest r none (At c) b least most = (b .0 .least, omega (arith, b .0 .most))
+level-between corners from finest r none Nowhere b least most = (least, omega arith)
+
 -- Two parts of ground that hold all its wanted cells, where none of the second has the west side of one of the first and is lower
 record Parts (corners : List Point) (from finest : ℕ) (r p q : Rectangle) : Type 0 where
   first : Within p r

@@ -1,5 +1,5 @@
 -- The laws of a half: its parts, the count at its centre, the answer for a half that is a cell, and the halves that follow. Assumes nothing.
-use Prim.Native.Nat.{ℕ, _+_, _-_, _/_, _≤_, _<_}
+use Prim.Native.Nat.{ℕ, _+_, _-_, _*_, _/_, _≤_, _<_}
 use native.Mathlib.Nat.{eq-or-lt-of-le}
 use native.Mathlib.Omega.{arith}
 use mathlib.Core.Path.{_≡_, refl, sym, ap, subst, _∙_}
@@ -21,11 +21,12 @@ use Rattle.boundary.specs.Corners.{cornersOf}
 use Rattle.boundary.specs.Missing.{Within}
 use Rattle.boundary.specs.Parity.{Lies, same-inside}
 use Rattle.boundary.specs.Inner.{centre-lies}
+use Rattle.unit.specs.declared.Choice.{Choice}
 use Rattle.unit.specs.declared.Choice.the-variants.{At, Nowhere}
 use Rattle.unit.specs.Chosen.{Before}
 use Rattle.quick.specs.declared.half.Half.{Half}
 use Rattle.quick.specs.Kept.{southWest, Sound, Part}
-use Rattle.quick.specs.Best.{Wanted, Best, southOf, northOf, westOf, eastOf, passesOver}
+use Rattle.quick.specs.Best.{Wanted, Best, southOf, northOf, westOf, eastOf, passesOver, earlier, levelOf, level-between, best-below, best-lat, best-lon, best-west}
 use Rattle.quick.specs.Asked.{ByLat, ByLon}
 
 module _ {numbers room : List ℕ} {h : Half} (s : Sound numbers room h) where
@@ -285,3 +286,101 @@ module _ {level left : ℕ} {r : Rectangle} (b : ByLon level left r) {at : Lon} 
   lon-whole same =
       by-lat-of (whole-half (level - left / 2 - 1) (omega (arith, b .coarsest)) (omega (arith, b .coarsest, b .finest)) (b .lon) (sym split-lon ∙ same))
       (b .east-end)
+
+-- Ground that halvings by latitude are left for is that of a cell itself
+pub lat-cell : {level left : ℕ} {r : Rectangle} → ByLat level left r → ByLat (level - left / 2) 0 r
+lat-cell {level} {left} {r} b =
+    let same : level - left / 2 ≡ level - left / 2 - 0 / 2 = omega arith in
+    record {
+      even = omega arith;
+      coarsest = omega (arith, b .coarsest);
+      finest = omega (arith, b .finest);
+      lat = subst (λ (n : ℕ). Span n (r .south .0) (r .north .0)) same (b .lat);
+      lon = subst (λ (n : ℕ). Span n (r .west .0) (r .east .0)) same (b .lon);
+      north-end = b .north-end;
+      east-end = b .east-end;
+    }
+
+-- Fewer halvings are left to a coarser level that is not passed yet
+pub by-lon-limit : {level left limit : ℕ} {r : Rectangle} → ByLon level left r → limit ≤ level → level - left / 2 ≤ limit
+    → ByLon limit (left - 2 * (level - limit)) r
+by-lon-limit {level} {left} {limit} {r} b most least =
+    let same : level - left / 2 ≡ limit - (left - 2 * (level - limit)) / 2 = omega (arith, b .coarsest) in
+    record {
+      odd = omega (arith, b .odd, b .coarsest);
+      coarsest = omega (arith, b .coarsest);
+      finest = omega (arith, b .finest);
+      lat = subst (λ (n : ℕ). Span n (r .south .0) (r .north .0)) same (b .lat);
+      lon = subst (λ (n : ℕ). Span (n - 1) (r .west .0) (r .east .0)) same (b .lon);
+      north-end = b .north-end;
+      east-end = b .east-end;
+    }
+
+pub by-lat-limit : {level left limit : ℕ} {r : Rectangle} → ByLat level left r → limit ≤ level → level - left / 2 ≤ limit
+    → ByLat limit (left - 2 * (level - limit)) r
+by-lat-limit {level} {left} {limit} {r} b most least =
+    let same : level - left / 2 ≡ limit - (left - 2 * (level - limit)) / 2 = omega (arith, b .coarsest) in
+    record {
+      even = omega (arith, b .even, b .coarsest);
+      coarsest = omega (arith, b .coarsest);
+      finest = omega (arith, b .finest);
+      lat = subst (λ (n : ℕ). Span n (r .south .0) (r .north .0)) same (b .lat);
+      lon = subst (λ (n : ℕ). Span n (r .west .0) (r .east .0)) same (b .lon);
+      north-end = b .north-end;
+      east-end = b .east-end;
+    }
+
+module _ (corners : List Point) {level left : ℕ} {r : Rectangle} (b : ByLat level left r) (some : 0 < left) where
+  -- Ground that is no inside cell itself has the answer of the finer levels
+  pub lat-below : (a : Choice) → Best corners (level - left / 2) (level - left / 2) r Nowhere → Best corners (level - (left - 1) / 2) level r a
+      → Best corners (level - left / 2) level r a
+  lat-below a none best =
+      let finer : level - (left - 1) / 2 ≡ level - left / 2 + 1 = omega (arith, b .even, b .coarsest) in
+      best-below level r a none (subst (λ (n : ℕ). Best corners n level r a) finer best)
+
+  -- North of what is found only levels from the next on, and up to the level of that, are left
+  pub lat-limit : {at : Lat} → LatHalves level left r at → (first : Choice) {limit : ℕ} → Best corners (level - (left - 1) / 2) level (southOf r at) first
+      → limit ≡ levelOf first level → (level - (left - 1) / 2 ≤ limit) × (limit ≤ level)
+  lat-limit {at} h first low is =
+      let between = level-between corners (level - (left - 1) / 2) level (southOf r at) level first low (omega arith) (omega arith) in
+      (omega (arith, between .0), omega (arith, between .1))
+
+  -- and that of its halves by latitude
+  pub lat-joined : {at : Lat} → LatHalves level left r at → (first second : Choice) {limit : ℕ}
+      → Best corners (level - left / 2) (level - left / 2) r Nowhere → Best corners (level - (left - 1) / 2) level (southOf r at) first
+      → limit ≡ levelOf first level → level - (left - 1) / 2 ≤ limit → limit ≤ level
+      → Best corners (limit - (left - 1 - 2 * (level - limit)) / 2) limit (northOf r at) second
+      → Best corners (level - left / 2) level r (earlier first second)
+  lat-joined {at} h first second {limit} none low is least most high =
+      let from : limit - (left - 1 - 2 * (level - limit)) / 2 ≡ level - (left - 1) / 2 = omega (arith, b .even, b .coarsest) in
+      lat-below (earlier first second) none
+      (best-lat corners (level - (left - 1) / 2) level (omega (arith, b .coarsest)) r at (h .side)
+      (omega (arith, h .between .0)) (omega (arith, h .between .1)) first second low
+      (subst (λ (n : ℕ). Best corners (level - (left - 1) / 2) n (northOf r at) second) is
+      (subst (λ (n : ℕ). Best corners n limit (northOf r at) second) from high)))
+
+-- East of what is found only levels before the level of that are left
+pub lon-limit : (corners : List Point) {level left : ℕ} {r : Rectangle} → ByLon level left r → {at : Lon} → LonHalves level left r at → (first : Choice)
+    → Best corners (level - left / 2) level (westOf r at) first → (1 ≤ levelOf first (level + 1)) × (levelOf first (level + 1) - 1 ≤ level)
+lon-limit corners {level} {left} {r} b {at} h first low =
+    let between = level-between corners (level - left / 2) level (westOf r at) (level + 1) first low (omega arith) (omega arith) in
+    (omega (arith, between .0, b .coarsest), omega (arith, between .1))
+
+module _ (corners : List Point) {level left : ℕ} {r : Rectangle} (b : ByLon level left r) {at : Lon} (h : LonHalves level left r at)
+    (first : Choice) {limit : ℕ} (low : Best corners (level - left / 2) level (westOf r at) first) (is : limit ≡ levelOf first (level + 1) - 1) where
+  -- Ground has the answer of its halves by longitude
+  pub lon-joined : (second : Choice) → level - left / 2 ≤ limit → limit ≤ level
+      → Best corners (limit - (left - 1 - 2 * (level - limit)) / 2) limit (eastOf r at) second
+      → Best corners (level - left / 2) level r (earlier first second)
+  lon-joined second least most high =
+      let from : limit - (left - 1 - 2 * (level - limit)) / 2 ≡ level - left / 2 = omega (arith, b .odd, b .coarsest) in
+      best-lon corners (level - left / 2) level (omega (arith, b .coarsest)) r at (h .side)
+      (omega (arith, h .between .0)) (omega (arith, h .between .1)) first second low
+      (subst (λ (n : ℕ). Best corners (level - left / 2) n (eastOf r at) second) is
+      (subst (λ (n : ℕ). Best corners n limit (eastOf r at) second) from high))
+
+  -- or of the western half alone, where nothing coarser is left
+  pub lon-stopped : limit < level - left / 2 → Best corners (level - left / 2) level r first
+  lon-stopped less =
+      best-west corners (level - left / 2) level (omega (arith, b .coarsest)) r at (h .side)
+      (omega (arith, h .between .0)) (omega (arith, h .between .1)) first low (omega arith)
