@@ -18,7 +18,7 @@ split-requires c κs =
     let start = c .before .before in
     let a = start .args in
     let b = start .pre .0 in
-    let before : a .level - a .left / 2 ≡ a .level - a .left / 2 + 1 - 1 = omega arith in (
+    let before : a .finest - a .left / 2 ≡ a .finest - a .left / 2 + 1 - 1 = omega arith in (
       (omega (arith, b .coarsest), omega (arith, b .even, b .finest, start .pre .1), omega (arith, b .north-end)),
       subst (λ (n : ℕ). Span n (a .r .south .0) (a .r .north .0)) before (b .lat),
     )
