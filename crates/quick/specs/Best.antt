@@ -71,7 +71,7 @@ unfoldable pub passesOver : List Point → Rectangle → Bool
 passesOver corners r = unmet r (edgesOf corners) && not (pointInside (centreOf r) (edgesOf corners))
 
 -- A cell has room
-cell-room : (c : Cell) → IsCell c → Room (sidesOf c)
+pub cell-room : (c : Cell) → IsCell c → Room (sidesOf c)
 unfolding sidesOf
 cell-room c is =
     record {
@@ -115,7 +115,7 @@ not-sooner d c t = at (eqb (d .level) (c .level)) refl t
             pick (inr m) = m
 
 -- What is before a cell is of no finer level
-before-most : (x c : Cell) → Before x c → x .level ≤ c .level
+pub before-most : (x c : Cell) → Before x c → x .level ≤ c .level
 before-most x c (inl h) = omega arith
 before-most x c (inr (e, h)) = omega arith
 

@@ -1,5 +1,5 @@
--- The laws of the search: levels that are too wide, the room's listed edges, and the answers for the ground of a column, of a level and of
--- all levels, as the loops carry them on. Assumes nothing.
+-- The laws of the search: levels that are too wide, the room's listed edges, the answers for the ground of a column and for all ground, as
+-- the loops carry them on, and the chosen cell that they give. Assumes nothing.
 use Prim.Native.Nat.{ℕ, _+_, _-_, _*_, _/_, _≤_, _<_}
 use native.Mathlib.Nat.{eq-or-lt-of-le}
 use native.Mathlib.Omega.{arith}
@@ -18,22 +18,23 @@ use Rattle.ground.specs.Levels.{lat, lon, latEnd, lonEnd, distance}
 use Rattle.ground.specs.Cells.{lowSide, highSide, sidesOf, IsCell}
 use Rattle.ground.specs.CellTest.{low-below-high}
 use Rattle.ground.specs.Sides.{low-most, low-low, high-low, side-end}
-use Rattle.ground.specs.Halves.{Span, low-finer, narrowest, narrow-wide}
+use Rattle.ground.specs.Halves.{Span, narrowest, narrow-wide}
 use Rattle.boundary.specs.Boundary.{inside}
 use Rattle.boundary.specs.Corners.{cornersOf}
 use Rattle.boundary.specs.Missing.{Within, Ordered, either}
 use Rattle.boundary.specs.Keeping.{Keeps, edgeAt, keeps-places}
+use Rattle.boundary.specs.Products.{either-way}
 use Rattle.unit.specs.declared.Choice.{Choice}
 use Rattle.unit.specs.declared.Choice.the-variants.{At, Nowhere}
 use Rattle.unit.specs.Extents.{lats, lons, extremesOf}
 use Rattle.unit.specs.InExtents.{least-each, greatest-each, in-extents}
-use Rattle.unit.specs.Chosen.{Before, choose}
+use Rattle.unit.specs.Chosen.{choose}
 use Rattle.unit.specs.Choosing.{InRange, Over, chosen-choose, none-choose}
 use Rattle.quick.specs.Asked.{ByLat, Levels, Ground, column, everywhere, tooWide, UnfitBefore, NoneInside}
 use Rattle.quick.specs.Kept.{gather, Same, southWest, oddAt, Sound, Listed}
 use Rattle.quick.specs.HalfLaws.{ground-cell, only-cell}
 use Rattle.quick.specs.KeptLaws.{gather-same}
-use Rattle.quick.specs.Best.{Wanted, Best, lefter, best-all, best-lat, best-west, best-east}
+use Rattle.quick.specs.Best.{Wanted, Best, earlier, levelOf, cell-room, before-most, best-all, best-west, best-north, best-east}
 
 -- An answer of two tests in turn: the first where it holds
 pub or-first : {w a : Bool} (b : Bool) → w ≡ a → w ≡ true → w ≡ (a || b)
@@ -117,6 +118,10 @@ listed-same {numbers} {room} {later} l long same =
       all = gather-same room later (length numbers / 2) 0 (λ j p q. same j (omega arith)) ∙ l .all;
     }
 
+-- Two halvings a level lead down from the level to start from
+pub two-each : {finest top : ℕ} → Levels finest top → finest - 2 * (finest - top) / 2 ≡ top
+two-each l = omega (arith, l .below)
+
 -- What is known at first of the ground of a cell is so
 pub sound-all : {numbers room : List ℕ} {top : ℕ} {cell : Rectangle} {odd : Bool} → Listed numbers room → 9 ≤ top → top ≤ 27
     → Ground top cell → odd ≡ oddAt numbers (southWest cell)
@@ -139,9 +144,9 @@ sound-all {numbers} {room} {top} {cell} l coarsest finest g is =
     }
 
 -- and so are the halvings that are left
-pub by-lat-all : {level top : ℕ} {cell : Rectangle} → Levels level top → Ground top cell → ByLat level (2 * (level - top)) cell
-by-lat-all {level} {top} {cell} l g =
-    let same : top ≡ level - 2 * (level - top) / 2 = omega (arith, l .below) in
+pub by-lat-all : {finest top : ℕ} {cell : Rectangle} → Levels finest top → Ground top cell → ByLat finest (2 * (finest - top)) cell
+by-lat-all {finest} {top} {cell} l g =
+    let same : top ≡ finest - 2 * (finest - top) / 2 = sym (two-each l) in
     record {
       even = omega arith;
       coarsest = omega (arith, l .coarsest, l .below);
@@ -168,42 +173,26 @@ by-lat-none {level} {cell} coarsest finest g =
 
 -- A cell whose ground does not lie within the extents is not inside
 pub out-none : {corners : List Point} {r : Rectangle} → Over corners r → {level : ℕ} {cell : Rectangle} → ByLat level 0 cell
-    → (Within cell r → ⊥) → Best corners level cell Nowhere
+    → (Within cell r → ⊥) → Best corners level level cell Nowhere
 out-none {corners} {r} o b out d w =
     out (subst (λ (x : Rectangle). Within x r) (ap sidesOf (only-cell corners b d w) ∙ ground-cell corners b) (in-over o d (w .cell) (w .is)))
-
--- A cell has room, across and up
-cell-across : (d : Cell) → IsCell d → sidesOf d .west .0 < sidesOf d .east .0
-unfolding sidesOf
-cell-across d is = low-below-high (d .level) (d .west .0) (is .coarsest) (is .finest)
-
-cell-up : (d : Cell) → IsCell d → sidesOf d .south .0 < sidesOf d .north .0
-unfolding sidesOf
-cell-up d is = low-below-high (d .level) (d .south .0) (is .coarsest) (is .finest)
 
 -- The ground between two longitudes and two latitudes
 abbrev pub between : Lon → Lon → ℕ → ℕ → Rectangle
 between west east from south = record { west = west; east = east; south = lat from; north = lat south }
 
 -- The column has been searched from a latitude up to a south side
-pub record UpTo (corners : List Point) (level top : ℕ) (west east : Lon) (from south : ℕ) (found : Choice) : Type 0 where
+pub record UpTo (corners : List Point) (finest top : ℕ) (west east : Lon) (from south : ℕ) (found : Choice) : Type 0 where
   pub is : lowSide top south ≡ south
   pub least : from ≤ south
   pub most : south ≤ latEnd
-  pub best : Best corners level (between west east from south) found
+  pub best : Best corners top finest (between west east from south) found
 
--- A side of the level to start from is one of the level that is searched
-finer : {level top a : ℕ} → Levels level top → lowSide top a ≡ a → lowSide level a ≡ a
-finer {level} {top} {a} l is = low-finer top level a (l .coarsest) (l .below) (l .finest) is
-
--- That level is at most 27, and the level that is searched at least 9
-top-finest : {level top : ℕ} → Levels level top → top ≤ 27
+-- The level to start from is at most 27
+top-finest : {finest top : ℕ} → Levels finest top → top ≤ 27
 top-finest l = omega (arith, l .below, l .finest)
 
-level-coarsest : {level top : ℕ} → Levels level top → 9 ≤ level
-level-coarsest l = omega (arith, l .coarsest, l .below)
-
-module _ {corners : List Point} {r : Rectangle} (o : Over corners r) {level top : ℕ} (l : Levels level top) where
+module _ {corners : List Point} {r : Rectangle} (o : Over corners r) {finest top : ℕ} (l : Levels finest top) where
   -- A cell that starts before the ground's north or east end ends within the range
   pub north-most : {south : ℕ} → lowSide top south ≡ south → south < r .north .0 → highSide top south ≤ latEnd
   north-most is less = side-end top (l .coarsest) (top-finest l) 90 is less (o .north-end)
@@ -212,20 +201,20 @@ module _ {corners : List Point} {r : Rectangle} (o : Over corners r) {level top 
   east-most is less = side-end top (l .coarsest) (top-finest l) 180 is less (o .east-end)
 
   -- At first nothing has been searched
-  pub column-begin : (west east : Lon) {south : ℕ} → south ≡ lowSide top (r .south .0) → UpTo corners level top west east south south Nowhere
+  pub column-begin : (west east : Lon) {south : ℕ} → south ≡ lowSide top (r .south .0) → UpTo corners finest top west east south south Nowhere
   column-begin west east {south} e =
       record {
         is = subst (λ (n : ℕ). lowSide top n ≡ n) (sym e) (low-low top (l .coarsest) (top-finest l) (r .south .0));
         least = omega arith;
         most = omega (arith, low-most top (l .coarsest) (top-finest l) (r .south .0), over-order o .up, o .north-end);
-        best = λ d w. omega (arith, cell-up d (w .cell), w .lies .south, w .lies .north);
+        best = λ d w. omega (arith, cell-room d (w .cell) .up, w .lies .south, w .lies .north);
       }
 
-  module _ {west east : Lon} {from south : ℕ} {found : Choice} (s : UpTo corners level top west east from south found) where
+  module _ {west east : Lon} {from south : ℕ} {found : Choice} (s : UpTo corners finest top west east from south found) where
     -- One more cell
     pub column-again : {north : ℕ} (next : Choice) {whole : Choice} → south < r .north .0 → north ≡ highSide top south
-        → Best corners level (between west east south north) next → whole ≡ lefter found next
-        → UpTo corners level top west east from north whole
+        → Best corners top finest (between west east south north) next → whole ≡ earlier found next
+        → UpTo corners finest top west east from north whole
     column-again {north} next {whole} less e best whole-is =
         let more : south < north = omega (arith, low-below-high top south (l .coarsest) (top-finest l)) in
         record {
@@ -233,15 +222,15 @@ module _ {corners : List Point} {r : Rectangle} (o : Over corners r) {level top 
           least = omega (arith, s .least);
           most = omega (arith, north-most (s .is) less);
           best =
-              subst (Best corners level (between west east from north)) (sym whole-is)
-              (best-lat corners level (level-coarsest l) (l .finest) (between west east from north) (lat south)
-              (finer l (s .is)) (s .least) (omega arith) found next (s .best) best);
+              subst (Best corners top finest (between west east from north)) (sym whole-is)
+              (best-north corners top finest (l .coarsest) (between west east from north) (lat south)
+              (s .is) (s .least) (omega arith) found next (s .best) best);
         }
 
     -- At the end the ground has been searched
-    pub column-end : from ≡ lowSide top (r .south .0) → r .north .0 ≤ south → Best corners level (column west east) found
+    pub column-end : from ≡ lowSide top (r .south .0) → r .north .0 ≤ south → Best corners top finest (column west east) found
     column-end e past =
-        best-all found (record { west = omega arith; east = omega arith; south = omega arith; north = s .most })
+        best-all finest found (record { west = omega arith; east = omega arith; south = omega arith; north = s .most })
         (λ d w.
         let i = in-over o d (w .cell) (w .is) in
         record {
@@ -252,69 +241,60 @@ module _ {corners : List Point} {r : Rectangle} (o : Over corners r) {level top 
         })
         (s .best)
 
--- Nothing was found from the range's start to a west side
-pub record EastTo (corners : List Point) (level top west : ℕ) : Type 0 where
+-- The ground has been searched from the range's start to a west side
+pub record EastTo (corners : List Point) (finest top west : ℕ) (found : Choice) : Type 0 where
   pub is : lowSide top west ≡ west
   pub most : west ≤ lonEnd
-  pub none : Best corners level (column (lon 0) (lon west)) Nowhere
+  pub best : Best corners top finest (column (lon 0) (lon west)) found
 
-module _ {corners : List Point} {r : Rectangle} (o : Over corners r) {level top : ℕ} (l : Levels level top) where
-  -- So it is at first, before the extents
-  pub level-begin : {west : ℕ} → west ≡ lowSide top (r .west .0) → EastTo corners level top west
-  level-begin {west} e =
+module _ {corners : List Point} {r : Rectangle} (o : Over corners r) {finest top : ℕ} (l : Levels finest top) where
+  -- At first, before the extents, there is nothing to find
+  pub east-begin : {west : ℕ} → west ≡ lowSide top (r .west .0) → EastTo corners finest top west Nowhere
+  east-begin {west} e =
       let least = low-most top (l .coarsest) (top-finest l) (r .west .0) in
       record {
         is = subst (λ (n : ℕ). lowSide top n ≡ n) (sym e) (low-low top (l .coarsest) (top-finest l) (r .west .0));
         most = omega (arith, over-order o .across, o .east-end);
-        none = λ d w. omega (arith, cell-across d (w .cell), in-over o d (w .cell) (w .is) .west, w .lies .east);
+        best = λ d w. omega (arith, cell-room d (w .cell) .across, in-over o d (w .cell) (w .is) .west, w .lies .east);
       }
 
-  module _ {west east : ℕ} (s : EastTo corners level top west) (less : west < r .east .0) (e : east ≡ highSide top west) where
-    -- The next west side is one, within the range
-    next-is : lowSide top east ≡ east
-    next-is = subst (λ (n : ℕ). lowSide top n ≡ n) (sym e) (high-low top (l .coarsest) (top-finest l) west (s .is))
-
-    next-most : east ≤ lonEnd
-    next-most = omega (arith, east-most o l (s .is) less)
-
-    -- What one more column gives, the ground up to its east side gives
-    next-best : (found : Choice) → Best corners level (column (lon west) (lon east)) found
-        → Best corners level (column (lon 0) (lon east)) found
-    next-best found best =
-        best-east corners level (level-coarsest l) (l .finest) (column (lon 0) (lon east)) (lon west)
-        (finer l (s .is)) (omega arith) (omega (arith, low-below-high top west (l .coarsest) (top-finest l)))
-        found (s .none) best
-
-    -- A cell of it is the answer for all ground
-    pub level-found : {found : Choice} {c : Cell} → Best corners level (column (lon west) (lon east)) found → found ≡ At c
-        → Best corners level everywhere (At c)
-    level-found {found} {c} best is =
-        best-west corners level (level-coarsest l) (l .finest) everywhere (lon east)
-        (finer l next-is) (omega arith) next-most
-        (next-best (At c) (subst (Best corners level (column (lon west) (lon east))) is best))
-
-    -- Else the next is searched
-    pub level-again : {found : Choice} → Best corners level (column (lon west) (lon east)) found → found ≡ Nowhere
-        → EastTo corners level top east
-    level-again {found} best is =
+  module _ {west : ℕ} {found : Choice} (s : EastTo corners finest top west found) where
+    -- One more column
+    pub east-again : {east : ℕ} (next : Choice) {whole : Choice} → west < r .east .0 → east ≡ highSide top west
+        → Best corners top finest (column (lon west) (lon east)) next → whole ≡ earlier found next
+        → EastTo corners finest top east whole
+    east-again {east} next {whole} less e best whole-is =
+        let more : west < east = omega (arith, low-below-high top west (l .coarsest) (top-finest l)) in
         record {
-          is = next-is;
-          most = next-most;
-          none = next-best Nowhere (subst (Best corners level (column (lon west) (lon east))) is best);
+          is = subst (λ (n : ℕ). lowSide top n ≡ n) (sym e) (high-low top (l .coarsest) (top-finest l) west (s .is));
+          most = omega (arith, east-most o l (s .is) less);
+          best =
+              subst (Best corners top finest (column (lon 0) (lon east))) (sym whole-is)
+              (best-east corners top finest (l .coarsest) (column (lon 0) (lon east)) (lon west)
+              (s .is) (omega arith) (omega arith) found next (s .best) best);
         }
 
-  -- At the end nothing was found
-  pub level-end : {west : ℕ} → EastTo corners level top west → r .east .0 ≤ west → Best corners level everywhere Nowhere
-  level-end {west} s past =
-      best-all Nowhere (record { west = omega arith; east = s .most; south = omega arith; north = omega arith })
-      (λ d w.
-      record {
-        west = omega arith;
-        east = omega (arith, in-over o d (w .cell) (w .is) .east);
-        south = w .lies .south;
-        north = w .lies .north;
-      })
-      (s .none)
+    -- A cell of the coarsest level is the answer for all ground
+    pub east-found : levelOf found 28 ≡ top → Best corners top finest everywhere found
+    east-found of =
+        best-west corners top finest (l .coarsest) everywhere (lon west) (s .is) (omega arith) (s .most) found (s .best) (before found of)
+      where
+        before : (found : Choice) → levelOf found 28 ≡ top → levelOf found (finest + 1) - 1 < top
+        before (At c) of = omega (arith, l .coarsest)
+        before Nowhere of = omega (arith, top-finest l)
+
+    -- At the end the ground has been searched
+    pub east-end : r .east .0 ≤ west → Best corners top finest everywhere found
+    east-end past =
+        best-all finest found (record { west = omega arith; east = s .most; south = omega arith; north = omega arith })
+        (λ d w.
+        record {
+          west = omega arith;
+          east = omega (arith, in-over o d (w .cell) (w .is) .east);
+          south = w .lies .south;
+          north = w .lies .north;
+        })
+        (s .best)
 
 -- What passes a test, the test says, and the other way round
 said-true : (b : Bool) → T b → b ≡ true
@@ -324,19 +304,8 @@ said-true false t = absurd t
 said-holds : {b : Bool} → b ≡ true → T b
 said-holds e = subst T (sym e) tt
 
--- A cell that is inside is wanted somewhere
-wanted : {corners : List Point} {level : ℕ} (d : Cell) → IsCell d → inside corners d ≡ true → d .level ≡ level
-    → Wanted corners level everywhere d
-wanted d is t of =
-    record {
-      cell = is;
-      of = of;
-      is = t;
-      lies = record { west = omega arith; east = is .east-end; south = omega arith; north = is .north-end };
-    }
-
 module _ {corners : List Point} where
-  -- So it is for the levels that are too wide
+  -- No cell of the levels that are too wide is inside
   pub levels-begin : {r : Rectangle} → Over corners r → {level : ℕ} → (9 ≤ level) × (level ≤ 28) → UnfitBefore r level
       → NoneInside corners level
   levels-begin o h unfit =
@@ -346,34 +315,51 @@ module _ {corners : List Point} where
         none = λ d is t less. unfit-none o d is t (unfit (d .level) less (is .coarsest));
       }
 
-  module _ {level : ℕ} (s : NoneInside corners level) where
+  -- Where none of a level up to 27 is, there is no chosen cell
+  pub levels-end : {level : ℕ} → NoneInside corners level → InRange corners → 28 ≤ level → choose corners ≡ Nowhere
+  levels-end s range past =
+      none-choose corners range λ d is t. s .none d is (said-true (inside corners d) t) (omega (arith, is .finest))
+
+  module _ {level finest top : ℕ} (s : NoneInside corners level) (l : Levels finest top) (starts : top ≤ level) where
+    -- An inside cell up to the finest level is wanted, as none is of a level before those that are searched
+    inside-wanted : (d : Cell) → IsCell d → inside corners d ≡ true → d .level ≤ finest → Wanted corners top finest everywhere d
+    inside-wanted d is t most = at (either-way level (d .level))
+      where
+        at : (level ≤ d .level) ⊎ (d .level < level) → Wanted corners top finest everywhere d
+        at (inl h) =
+            record {
+              cell = is;
+              least = omega arith;
+              most = most;
+              is = t;
+              lies = record { west = omega arith; east = is .east-end; south = omega arith; north = is .north-end };
+            }
+        at (inr h) = absurd (s .none d is t h)
+
     -- A cell found is the chosen one
-    pub levels-found : InRange corners → {found : Choice} {c : Cell} → Best corners level everywhere found → found ≡ At c
+    pub levels-found : InRange corners → {found : Choice} {c : Cell} → Best corners top finest everywhere found → found ≡ At c
         → choose corners ≡ At c
     levels-found range {found} {c} best is =
-        let b : Best corners level everywhere (At c) = subst (Best corners level everywhere) is best in
+        let b : Best corners top finest everywhere (At c) = subst (Best corners top finest everywhere) is best in
         chosen-choose corners range
-        (record { cell = b .0 .cell; within = said-holds (b .0 .is); first = first b })
-      where
-        first : Best corners level everywhere (At c) → (d : Cell) → IsCell d → T (inside corners d) → Before d c → ⊥
-        first b d k t (inl h) = s .none d k (said-true (inside corners d) t) (omega (arith, b .0 .of))
-        first b d k t (inr (e, h)) = b .1 d (wanted d k (said-true (inside corners d) t) (e ∙ b .0 .of)) h
+        (record {
+          cell = b .0 .cell;
+          within = said-holds (b .0 .is);
+          first = λ d k t h. b .1 d (inside-wanted d k (said-true (inside corners d) t) (omega (arith, before-most d c h, b .0 .most))) h;
+        })
 
-    -- Else the next level is searched
-    pub levels-again : level < 28 → {found : Choice} → Best corners level everywhere found → found ≡ Nowhere
-        → NoneInside corners (level + 1)
-    levels-again less {found} best is =
-        let b : Best corners level everywhere Nowhere = subst (Best corners level everywhere) is best in
-        record { coarsest = omega (arith, s .coarsest); finest = omega arith; none = next b }
-      where
-        next : Best corners level everywhere Nowhere → (d : Cell) → IsCell d → inside corners d ≡ true → d .level < level + 1 → ⊥
-        next b d k t h = let most : d .level ≤ level = omega arith in at (eq-or-lt-of-le most)
-          where
-            at : (d .level ≡ level) ⊎ (d .level < level) → ⊥
-            at (inl e) = b d (wanted d k t e)
-            at (inr l) = s .none d k t l
+    -- Else no cell of a level up to the finest is inside
+    pub levels-again : {found : Choice} → Best corners top finest everywhere found → found ≡ Nowhere → NoneInside corners (finest + 1)
+    levels-again {found} best is =
+        let none : Best corners top finest everywhere Nowhere = subst (Best corners top finest everywhere) is best in
+        record {
+          coarsest = omega (arith, l .coarsest, l .below);
+          finest = omega (arith, l .finest);
+          none = λ d k t h. none d (inside-wanted d k t (omega arith));
+        }
 
-    -- At the end there is no chosen cell
-    pub levels-end : InRange corners → 28 ≤ level → choose corners ≡ Nowhere
-    levels-end range past =
-        none-choose corners range λ d is t. s .none d is (said-true (inside corners d) t) (omega (arith, is .finest))
+  -- The answer for the levels up to 27 is the chosen cell
+  pub levels-all : InRange corners → {level top : ℕ} → NoneInside corners level → Levels 27 top → top ≤ level → (found : Choice)
+      → Best corners top 27 everywhere found → found ≡ choose corners
+  levels-all range s l starts (At c) best = sym (levels-found s l starts range best refl)
+  levels-all range s l starts Nowhere best = sym (levels-end (levels-again s l starts best refl) range (omega arith))

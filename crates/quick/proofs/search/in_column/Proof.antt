@@ -13,11 +13,11 @@ use Rattle.quick.proofs.search.in_column.Statement.{statement}
 use Rattle.quick.proofs.search.in_column.Tie as tie
 
 abbrev Inv-loop : tie.InvT-loop
-Inv-loop numbers room₀ r level top west east to found₀ south₀ room found south =
-    StillListed numbers room₀ room × (length room ≡ length room₀) × UpTo (cornersOf numbers) level top west east south₀ south found
+Inv-loop numbers room₀ r finest top west east to found₀ south₀ room found south =
+    StillListed numbers room₀ room × (length room ≡ length room₀) × UpTo (cornersOf numbers) finest top west east south₀ south found
 
 abbrev μ-loop : tie.MeasureT-loop
-μ-loop numbers room₀ r level top west east to found₀ south₀ room found south = to .0 - south
+μ-loop numbers room₀ r finest top west east to found₀ south₀ room found south = to .0 - south
 
 -- the next south side is within the range
 next : (c : tie.After-high-side Inv-loop μ-loop) → c .high-side .result ≤ latEnd
@@ -60,8 +60,8 @@ in-cell-requires c κs =
       ),
     )
 
-lefter-requires : tie.Need-lefter-requires Inv-loop μ-loop
-lefter-requires c κs = search needs
+earlier-requires : tie.Need-earlier-requires Inv-loop μ-loop
+earlier-requires c κs = search needs
 
 loop-less : tie.Need-loop-less Inv-loop μ-loop
 loop-less c =
@@ -80,7 +80,7 @@ loop-again c =
       λ l. cell .in-cell .ensures .1 (loop .loop .inv .0 l),
       search needs,
       column-again (start .pre .1 .0) (start .pre .1 .1 .0) (loop .loop .inv .2) (cell .in-cell .result)
-          (high .before .if1 .taken) (high .high-side .ensures) (cell .in-cell .ensures .0) (c .lefter .ensures),
+          (high .before .if1 .taken) (high .high-side .ensures) (cell .in-cell .ensures .0) (c .earlier .ensures),
     )
 
 same-length : tie.Need-same-length Inv-loop μ-loop
@@ -104,7 +104,7 @@ in-column-spec =
     high-side-requires
     cast-north
     in-cell-requires
-    lefter-requires
+    earlier-requires
     loop-less
     loop-again
     same-length

@@ -1,23 +1,23 @@
--- `quick::search::in_level` meets its contract: nothing was found west of `west`. Assumes nothing.
+-- `quick::search::in_levels` meets its contract: the ground from the range's start to `west` has been searched. Assumes nothing.
 use Prim.Native.Nat.{_-_, _≤_}
 use native.Mathlib.Omega.{arith}
-use mathlib.Core.Path.{_≡_}
+use mathlib.Core.Path.{_≡_, sym, _∙_}
 use borrow.Author.Needs.{needs}
 use lib.ListN.{length}
 use Rattle.ground.specs.Levels.{lonEnd}
 use Rattle.ground.specs.CellTest.{low-below-high}
 use Rattle.boundary.specs.Corners.{cornersOf}
 use Rattle.quick.specs.Asked.{StillListed}
-use Rattle.quick.specs.SearchLaws.{EastTo, east-most, level-begin, level-found, level-again, level-end}
-use Rattle.quick.proofs.search.in_level.Statement.{statement}
-use Rattle.quick.proofs.search.in_level.Tie as tie
+use Rattle.quick.specs.SearchLaws.{EastTo, east-most, east-begin, east-again, east-found, east-end}
+use Rattle.quick.proofs.search.in_levels.Statement.{statement}
+use Rattle.quick.proofs.search.in_levels.Tie as tie
 
 abbrev Inv-loop : tie.InvT-loop
-Inv-loop numbers room₀ r level top to west₀ room west =
-    StillListed numbers room₀ room × (length room ≡ length room₀) × EastTo (cornersOf numbers) level top west
+Inv-loop numbers room₀ r finest top to found₀ west₀ room found west =
+    StillListed numbers room₀ room × (length room ≡ length room₀) × EastTo (cornersOf numbers) finest top west found
 
 abbrev μ-loop : tie.MeasureT-loop
-μ-loop numbers room₀ r level top to west₀ room west = to .0 - west
+μ-loop numbers room₀ r finest top to found₀ west₀ room found west = to .0 - west
 
 -- the next west side is within the range
 next : (c : tie.After-high-side Inv-loop μ-loop) → c .high-side .result ≤ lonEnd
@@ -32,7 +32,7 @@ low-side-requires c κs = search needs
 loop-holds : tie.Need-loop-holds Inv-loop μ-loop
 loop-holds c =
     let start = c .before .before .before .before .before in
-    (λ l. l, search needs, level-begin (start .pre .1 .0) (start .pre .1 .1) (c .low-side .ensures))
+    (λ l. l, search needs, east-begin (start .pre .1 .0) (start .pre .1 .1) (c .low-side .ensures))
 
 high-side-requires : tie.Need-high-side-requires Inv-loop μ-loop
 high-side-requires c κs = search needs
@@ -57,29 +57,37 @@ in-column-requires c κs =
       ),
     )
 
-enum-known-found : tie.Need-enum-known-found Inv-loop μ-loop
-enum-known-found c = search needs
+earlier-requires : tie.Need-earlier-requires Inv-loop μ-loop
+earlier-requires c κs = search needs
+
+-- the ground up to the next west side has been searched
+searched : (c : tie.After-earlier Inv-loop μ-loop)
+    → let high = c .before .before .before .before .before in
+    let a = high .before .before .before .before .before .before .before .before .before .args in
+    EastTo (cornersOf (a .numbers .now)) (a .finest) (a .top) (high .high-side .result) (c .earlier .result)
+searched c =
+    let column = c .before .before .before in
+    let high = column .before .before in
+    let loop = high .before .before .before in
+    let start = loop .before .before .before .before .before .before in
+    east-again (start .pre .1 .0) (start .pre .1 .1) (loop .loop .inv .2) (column .in-column .result)
+    (high .before .if1 .taken) (high .high-side .ensures) (column .in-column .ensures .0) (c .earlier .ensures)
+
+level-of-requires : tie.Need-level-of-requires Inv-loop μ-loop
+level-of-requires c κs = search needs
 
 same-length : tie.Need-same-length Inv-loop μ-loop
 same-length c = search needs
 
 returns : tie.Need-returns Inv-loop μ-loop
 returns c =
-    let column = c .before .before .before .before .before in
-    let high = column .before .before in
-    let loop = high .before .before .before in
-    let start = loop .before .before .before .before .before .before in (
-      level-found (start .pre .1 .0) (start .pre .1 .1) (loop .loop .inv .2) (high .before .if1 .taken) (high .high-side .ensures)
-          (column .in-column .ensures .0) (c .before .found .given .1),
-      λ l. column .in-column .ensures .1 (loop .loop .inv .0 l),
-    )
-
-enum-told : tie.Need-enum-told Inv-loop μ-loop
-enum-told c = search needs
+    let level = c .before in
+    let start = level .before .before .before .before .before .before .before .before .before .before .before .before .before .before .before in
+    east-found (start .pre .1 .0) (start .pre .1 .1) (searched (level .before)) (sym (level .level-of .ensures) ∙ c .if2 .taken)
 
 loop-less : tie.Need-loop-less Inv-loop μ-loop
 loop-less c =
-    let high = c .before .before .before .before .before .before in
+    let high = c .before .before .before .before .before .before .before in
     let loop = high .before .before .before in
     let start = loop .before .before .before .before .before .before in
     let l = start .pre .1 .1 in
@@ -87,15 +95,9 @@ loop-less c =
 
 loop-again : tie.Need-loop-again Inv-loop μ-loop
 loop-again c =
-    let column = c .before .before .before .before in
-    let high = column .before .before in
-    let loop = high .before .before .before in
-    let start = loop .before .before .before .before .before .before in (
-      λ l. column .in-column .ensures .1 (loop .loop .inv .0 l),
-      search needs,
-      level-again (start .pre .1 .0) (start .pre .1 .1) (loop .loop .inv .2) (high .before .if1 .taken) (high .high-side .ensures)
-          (column .in-column .ensures .0) (c .enum-told .given .1),
-    )
+    let column = c .before .before .before .before .before in
+    let loop = column .before .before .before .before .before in
+    (λ l. column .in-column .ensures .1 (loop .loop .inv .0 l), search needs, searched (c .before .before))
 
 same-length-2 : tie.Need-same-length-2 Inv-loop μ-loop
 same-length-2 c = c .before .before .loop .inv .1
@@ -104,10 +106,10 @@ returns-2 : tie.Need-returns-2 Inv-loop μ-loop
 returns-2 c =
     let loop = c .before .before in
     let start = loop .before .before .before .before .before .before in
-    (level-end (start .pre .1 .0) (start .pre .1 .1) (loop .loop .inv .2) (c .if1 .left), loop .loop .inv .0)
+    east-end (start .pre .1 .0) (start .pre .1 .1) (loop .loop .inv .2) (c .if1 .left)
 
-pub in-level-spec : {M : Type 1} → statement M
-in-level-spec =
+pub in-levels-spec : {M : Type 1} → statement M
+in-levels-spec =
     tie.close
     (tie.spec
     Inv-loop
@@ -117,10 +119,10 @@ in-level-spec =
     high-side-requires
     cast-east
     in-column-requires
-    enum-known-found
+    earlier-requires
+    level-of-requires
     same-length
     returns
-    enum-told
     loop-less
     loop-again
     same-length-2
