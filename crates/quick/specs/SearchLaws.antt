@@ -357,9 +357,3 @@ module _ {corners : List Point} where
           finest = omega (arith, l .finest);
           none = λ d k t h. none d (inside-wanted d k t (omega arith));
         }
-
-  -- The answer for the levels up to 27 is the chosen cell
-  pub levels-all : InRange corners → {level top : ℕ} → NoneInside corners level → Levels 27 top → top ≤ level → (found : Choice)
-      → Best corners top 27 everywhere found → found ≡ choose corners
-  levels-all range s l starts (At c) best = sym (levels-found s l starts range best refl)
-  levels-all range s l starts Nowhere best = sym (levels-end (levels-again s l starts best refl) range (omega arith))

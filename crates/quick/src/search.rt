@@ -1,6 +1,6 @@
 // The search for the chosen cell, from the first level whose cells can fit the extents. Near levels, of
-// which few cells lie over the extents, go cell by cell, in turn; the others together, by halving the
-// cells of a coarser level that lie over the extents.
+// which few cells lie over the extents, go cell by cell, in turn; the others some together, by halving
+// the cells of a coarser level that lie over the extents.
 ghost use Prim.Native.Nat.{_/_, _≤_, _<_};
 ghost use mathlib.Core.Path.{_≡_};
 ghost use lib.ListN.{length};
@@ -189,6 +189,7 @@ fn in_levels(numbers: &[u32], room: &mut [u16], r: Rectangle, finest: u32, top: 
     requires { ⌜ Over (cornersOf (now numbers)) r ⌝ }
     requires { ⌜ Levels finest top ⌝ }
     ensures { λ c. ⌜ Best (cornersOf (now (numbers .entry))) top finest everywhere c ⌝ }
+    ensures { λ _. ⌜ StillListed (now (numbers .entry)) (now (room .entry)) (now (room .exit)) ⌝ }
 {
     let from = r.west;
     let to = r.east;
@@ -252,7 +253,17 @@ pub(crate) fn near(numbers: &[u32], r: Rectangle) -> Nearby
     Nearby::Next(level)
 }
 
-// The chosen cell, where none of a level before one is inside: the levels up to 27 by halving.
+// The finest level that is searched together with a level: a descent for some levels at once costs
+// little more than one for the last of them, and does not dive far below a coarse cell further on.
+fn finest_with(level: u32) -> u32
+    requires { ⌜ level ≤ 27 ⌝ }
+    ensures { λ f. ⌜ (level ≤ f) × (f ≤ 27) ⌝ }
+{
+    if level < 20 { level + 7 } else { 27 }
+}
+
+// The chosen cell, where none of a level before one is inside: the levels up to 27, some together, by
+// halving.
 pub(crate) fn far(numbers: &[u32], room: &mut [u16], r: Rectangle, start: u32) -> Choice
     requires { ⌜ length (now numbers) / 2 ≤ length (now room) ⌝ }
     requires { ⌜ length (now numbers) / 2 ≤ 1024 ⌝ }
@@ -261,9 +272,15 @@ pub(crate) fn far(numbers: &[u32], room: &mut [u16], r: Rectangle, start: u32) -
     requires { ⌜ NoneInside (cornersOf (now numbers)) start ⌝ }
     ensures { λ c. ⌜ c ≡ choose (cornersOf (now (numbers .entry))) ⌝ }
 {
-    if 27 < start {
-        return Choice::Nowhere;
-    }
     list_all(numbers, room);
-    in_levels(numbers, room, r, 27, top_of(r, start))
+    let mut level = start;
+    while level < 28 {
+        let finest = finest_with(level);
+        let found = in_levels(numbers, room, r, finest, top_of(r, level));
+        if let Choice::At(c) = found {
+            return Choice::At(c);
+        }
+        level = finest + 1;
+    }
+    Choice::Nowhere
 }

@@ -73,6 +73,16 @@ searched c =
     east-again (start .pre .1 .0) (start .pre .1 .1) (loop .loop .inv .2) (column .in-column .result)
     (high .before .if1 .taken) (high .high-side .ensures) (column .in-column .ensures .0) (c .earlier .ensures)
 
+-- and all edges stand in the room as before
+still : (c : tie.After-earlier Inv-loop μ-loop)
+    → let column = c .before .before .before in
+    StillListed (column .before .before .before .before .before .before .before .before .before .before .before .args .numbers .now)
+    (column .before .before .before .before .before .before .before .before .before .before .before .args .room .now) (column .in-column .last .1 .0)
+still c =
+    let column = c .before .before .before in
+    let loop = column .before .before .before .before .before in
+    λ l. column .in-column .ensures .1 (loop .loop .inv .0 l)
+
 level-of-requires : tie.Need-level-of-requires Inv-loop μ-loop
 level-of-requires c κs = search needs
 
@@ -82,8 +92,10 @@ same-length c = search needs
 returns : tie.Need-returns Inv-loop μ-loop
 returns c =
     let level = c .before in
-    let start = level .before .before .before .before .before .before .before .before .before .before .before .before .before .before .before in
-    east-found (start .pre .1 .0) (start .pre .1 .1) (searched (level .before)) (sym (level .level-of .ensures) ∙ c .if2 .taken)
+    let start = level .before .before .before .before .before .before .before .before .before .before .before .before .before .before .before in (
+      east-found (start .pre .1 .0) (start .pre .1 .1) (searched (level .before)) (sym (level .level-of .ensures) ∙ c .if2 .taken),
+      still (level .before),
+    )
 
 loop-less : tie.Need-loop-less Inv-loop μ-loop
 loop-less c =
@@ -95,9 +107,7 @@ loop-less c =
 
 loop-again : tie.Need-loop-again Inv-loop μ-loop
 loop-again c =
-    let column = c .before .before .before .before .before in
-    let loop = column .before .before .before .before .before in
-    (λ l. column .in-column .ensures .1 (loop .loop .inv .0 l), search needs, searched (c .before .before))
+    (still (c .before .before), search needs, searched (c .before .before))
 
 same-length-2 : tie.Need-same-length-2 Inv-loop μ-loop
 same-length-2 c = c .before .before .loop .inv .1
@@ -106,7 +116,7 @@ returns-2 : tie.Need-returns-2 Inv-loop μ-loop
 returns-2 c =
     let loop = c .before .before in
     let start = loop .before .before .before .before .before .before in
-    east-end (start .pre .1 .0) (start .pre .1 .1) (loop .loop .inv .2) (c .if1 .left)
+    (east-end (start .pre .1 .0) (start .pre .1 .1) (loop .loop .inv .2) (c .if1 .left), loop .loop .inv .0)
 
 pub in-levels-spec : {M : Type 1} → statement M
 in-levels-spec =

@@ -13,7 +13,7 @@ in-levels-requires c κs =
     (λ less. absurd (omega arith), (start .pre .0, start .pre .1))
 
 returns : tie.Need-returns
-returns c = c .before .in-levels .ensures
+returns c = c .before .in-levels .ensures .0
 
 pub near-level-spec : {M : Type 1} → statement M
 near-level-spec = tie.close (tie.spec slice-aggregate-in-levels in-levels-requires returns)
