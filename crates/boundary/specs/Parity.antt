@@ -3,7 +3,7 @@ use Prim.Native.Nat.{ℕ, suc, _*_, _≤_, _<_}
 use native.Mathlib.Omega.{arith}
 use mathlib.Core.Path.{_≡_, refl, ap, ap₂, sym, _∙_}
 use mathlib.Core.Logic.{_⊎_, inl, inr}
-use mathlib.Core.Bool.{Bool, true, false, not, _&&_, _||_, and-true, and-false, or-false, or-comm}
+use mathlib.Core.Bool.{Bool, true, false, not, _&&_, _||_, and-true, and-false, or-false, or-comm, false≢true}
 use mathlib.Core.List.{List, [], _∷_}
 use lib.Dec.{leb}
 use borrow.Author.Tests.{leb-true, leb-false, le-leb, lt-leb, lt-ltb, le-ltb}
@@ -97,6 +97,16 @@ module _ (e : Edge) (p : Point) where
       → crossesEast p e ≡ differ (low (e .start) p) (low (e .end) p)
   east-counts h k =
       crosses-so e p true (λ x y. up-east (e .start) (e .end) p x y h k) (λ x y. up-east (e .end) (e .start) p x y k h)
+
+  -- Below it and above it told by one test: both ends are at or below its latitude, or neither
+  pub same-none : differ (low (e .start) p) (low (e .end) p) ≡ false → crossesEast p e ≡ false
+  same-none = case (low (e .start) p) (low (e .end) p) refl refl
+    where
+      case : (a b : Bool) → low (e .start) p ≡ a → low (e .end) p ≡ b → differ a b ≡ false → crossesEast p e ≡ false
+      case true true h k d = below-none (leb-true (e .start .lat .0) (p .lat .0) h) (leb-true (e .end .lat .0) (p .lat .0) k)
+      case true false h k d = absurd (false≢true (sym d))
+      case false true h k d = absurd (false≢true (sym d))
+      case false false h k d = above-none (leb-false (e .start .lat .0) (p .lat .0) h) (leb-false (e .end .lat .0) (p .lat .0) k)
 
 module _ {r : Rectangle} (room : Room r) (a b : Point) (l : LeftOf a b r) where
   -- A rectangle left of a line upward lies west of each point of the line

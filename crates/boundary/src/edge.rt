@@ -1,12 +1,13 @@
 // An edge beside a rectangle and beside a point. Comparisons come first, products only where these
 // leave it open.
 ghost use mathlib.Core.Path.{_≡_};
-ghost use mathlib.Core.Bool.{_&&_};
+ghost use mathlib.Core.Bool.{_&&_, _||_};
 ghost use lib.Dec.{leb};
 ghost use Rattle.boundary.specs.Boundary.{edge, left as Boundary·left, beyond as Boundary·beyond, allLeft, misses as Boundary·misses, crossesEast};
 ghost use Rattle.boundary.specs.Extreme.{extremeLat, extremeLon};
 ghost use Rattle.boundary.specs.Missing.{Ordered};
-ghost use Rattle.boundary.specs.Parity.{between as Parity·between};
+ghost use Rattle.boundary.specs.Odd.{differ};
+ghost use Rattle.boundary.specs.Parity.{low, between as Parity·between};
 ghost use Rattle.boundary.specs.Keeping.{turns as Keeping·turns};
 use crate::left;
 use ground::Lat;
@@ -22,7 +23,7 @@ fn both_most(a: u32, b: u32, c: u32, d: u32) -> bool
 }
 
 // Whether both ends of an edge are beyond one side of a rectangle.
-fn beyond(a: Point, b: Point, r: Rectangle) -> bool
+pub fn beyond(a: Point, b: Point, r: Rectangle) -> bool
     ensures { λ m. ⌜ m ≡ Boundary·beyond (edge a b) r ⌝ }
 {
     let a_lat = a.lat;
@@ -105,13 +106,10 @@ fn each_left(a: Point, b: Point, r: Rectangle) -> bool
     !right(a, b, north, east)
 }
 
-// Whether an edge misses the open inside of a rectangle, for all points and rectangles.
-pub fn misses(a: Point, b: Point, r: Rectangle) -> bool
-    ensures { λ m. ⌜ m ≡ Boundary·misses (edge a b) r ⌝ }
+// Whether the corners of a rectangle lie all on one side of the line from a to b, or on it.
+pub fn aside(a: Point, b: Point, r: Rectangle) -> bool
+    ensures { λ m. ⌜ m ≡ (allLeft a b r || allLeft b a r) ⌝ }
 {
-    if beyond(a, b, r) {
-        return true;
-    }
     let west = r.west;
     let east = r.east;
     let south = r.south;
@@ -120,6 +118,13 @@ pub fn misses(a: Point, b: Point, r: Rectangle) -> bool
         return ordered_left(a, b, r) || ordered_left(b, a, r);
     }
     each_left(a, b, r) || each_left(b, a, r)
+}
+
+// Whether an edge misses the open inside of a rectangle, for all points and rectangles.
+pub fn misses(a: Point, b: Point, r: Rectangle) -> bool
+    ensures { λ m. ⌜ m ≡ Boundary·misses (edge a b) r ⌝ }
+{
+    beyond(a, b, r) || aside(a, b, r)
 }
 
 // Whether an edge crosses a point's latitude strictly east of the point.
@@ -133,6 +138,23 @@ pub fn crosses_east(p: Point, a: Point, b: Point) -> bool
         return at.0 < b_lat.0 && left(a, b, p);
     }
     b_lat.0 <= at.0 && left(b, a, p)
+}
+
+// Whether exactly one end of an edge is at or below a point's latitude.
+fn straddles(p: Point, a: Point, b: Point) -> bool
+    ensures { λ m. ⌜ m ≡ differ (low a p) (low b p) ⌝ }
+{
+    let at = p.lat;
+    let a_lat = a.lat;
+    let b_lat = b.lat;
+    (a_lat.0 <= at.0) != (b_lat.0 <= at.0)
+}
+
+// The same, with the comparisons small enough to be inlined: most edges pass above or below a point.
+fn crosses(p: Point, a: Point, b: Point) -> bool
+    ensures { λ m. ⌜ m ≡ crossesEast p (edge a b) ⌝ }
+{
+    straddles(p, a, b) && crosses_east(p, a, b)
 }
 
 // Whether a corner at or beyond an east side is at or below the latitude of one of two points alone.
@@ -151,6 +173,6 @@ pub fn turns(p: Point, q: Point, east: Lon, a: Point, b: Point) -> bool
     ensures { λ m. ⌜ m ≡ Keeping·turns east p q (edge a b) ⌝ }
 {
     let ends = between(p, q, east, a) != between(p, q, east, b);
-    let crossings = crosses_east(p, a, b) != crosses_east(q, a, b);
+    let crossings = crosses(p, a, b) != crosses(q, a, b);
     crossings != ends
 }

@@ -3,6 +3,8 @@ mod edge;
 mod side;
 mod walk;
 
+pub use edge::aside;
+pub use edge::beyond;
 pub use edge::crosses_east;
 pub use edge::misses;
 pub use edge::turns;

@@ -13,11 +13,11 @@ between-requires c κs = search needs
 between-requires-2 : tie.Need-between-requires-2
 between-requires-2 c κs = search needs
 
-crosses-east-requires : tie.Need-crosses-east-requires
-crosses-east-requires c κs = search needs
+crosses-requires : tie.Need-crosses-requires
+crosses-requires c κs = search needs
 
-crosses-east-requires-2 : tie.Need-crosses-east-requires-2
-crosses-east-requires-2 c κs = search needs
+crosses-requires-2 : tie.Need-crosses-requires-2
+crosses-requires-2 c κs = search needs
 
 -- four tests, two and two
 four : (a b c d : Bool) → not (Bool·beq (not (Bool·beq a b)) (not (Bool·beq c d))) ≡ differ (differ a b) (differ c d)
@@ -26,8 +26,8 @@ four a b c d = unlike (not (Bool·beq a b)) (not (Bool·beq c d)) ∙ ap₂ diff
 returns : tie.Need-returns
 unfolding turns
 returns c =
-    let at-q = c .crosses-east2 in
-    let at-p = c .before .crosses-east in
+    let at-q = c .crosses2 in
+    let at-p = c .before .crosses in
     let end = c .before .before .between2 in
     let start = c .before .before .before .between in
     four (at-p .result) (at-q .result) (start .result) (end .result)
@@ -35,4 +35,4 @@ returns c =
 
 pub turns-spec : {M : Type 1} → statement M
 turns-spec =
-    tie.close (tie.spec between-requires between-requires-2 crosses-east-requires crosses-east-requires-2 returns)
+    tie.close (tie.spec between-requires between-requires-2 crosses-requires crosses-requires-2 returns)

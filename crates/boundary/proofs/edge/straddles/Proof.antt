@@ -1,0 +1,13 @@
+-- `boundary::edge::straddles` meets its contract: two tests that are not equal differ. Assumes nothing.
+use Rattle.boundary.specs.Odd.{unlike}
+use Rattle.boundary.specs.Parity.{low}
+use Rattle.boundary.proofs.edge.straddles.Statement.{statement}
+use Rattle.boundary.proofs.edge.straddles.Tie as tie
+
+returns : tie.Need-returns
+returns c =
+    let a = c .before .before .before .before .before .before .before .args in
+    unlike (low (a .a) (a .p)) (low (a .b) (a .p))
+
+pub straddles-spec : {M : Type 1} → statement M
+straddles-spec = tie.close (tie.spec returns)
