@@ -20,7 +20,7 @@ use unit::Choice;
 
 // The test for passing over: no edge meets the half, and its centre is not inside, where the count is
 // what it is at the south-west corner.
-fn passed_over(numbers: &[u32], room: &[u16], half: Half) -> bool
+fn passed_over(numbers: &[u32], room: &[u32], half: Half) -> bool
     requires { ⌜ Sound (now numbers) (now room) half ⌝ }
     ensures { λ p. ⌜ p ≡ passesOver (cornersOf (now (numbers .entry))) (half .ground) ⌝ }
 {
@@ -31,7 +31,7 @@ fn passed_over(numbers: &[u32], room: &[u16], half: Half) -> bool
 }
 
 // The cell of a level that a half is, if it is inside.
-fn tried(numbers: &[u32], room: &[u16], half: Half, level: u32) -> Choice
+fn tried(numbers: &[u32], room: &[u32], half: Half, level: u32) -> Choice
     requires { ⌜ Sound (now numbers) (now room) half ⌝ }
     requires { ⌜ ByLat level 0 (half .ground) ⌝ }
     ensures { λ c. ⌜ Best (cornersOf (now (numbers .entry))) level (half .ground) c ⌝ }
@@ -64,7 +64,7 @@ pub(crate) fn lefter(first: Choice, second: Choice) -> Choice
 }
 
 // Halves by latitude, and goes on by longitude.
-pub(crate) fn by_lat(numbers: &[u32], room: &mut [u16], half: Half, level: u32, left: u32) -> Choice
+pub(crate) fn by_lat(numbers: &[u32], room: &mut [u32], half: Half, level: u32, left: u32) -> Choice
     requires { ⌜ Sound (now numbers) (now room) half ⌝ }
     requires { ⌜ ByLat level left (half .ground) ⌝ }
     ensures { λ c. ⌜ Best (cornersOf (now (numbers .entry))) level (half .ground) c ⌝ }
@@ -89,7 +89,7 @@ pub(crate) fn by_lat(numbers: &[u32], room: &mut [u16], half: Half, level: u32, 
 }
 
 // Halves by longitude, and goes on by latitude.
-fn by_lon(numbers: &[u32], room: &mut [u16], half: Half, level: u32, left: u32) -> Choice
+fn by_lon(numbers: &[u32], room: &mut [u32], half: Half, level: u32, left: u32) -> Choice
     requires { ⌜ Sound (now numbers) (now room) half ⌝ }
     requires { ⌜ ByLon level left (half .ground) ⌝ }
     ensures { λ c. ⌜ Best (cornersOf (now (numbers .entry))) level (half .ground) c ⌝ }

@@ -1,7 +1,7 @@
 // The search for the chosen cell: the levels in turn whose cells can fit the extents. Near levels, of
 // which few cells lie over the extents, go cell by cell; the others by halving the cells of a coarser
 // level that lie over the extents.
-ghost use Prim.Native.Nat.{_/_, _≤_, _<_};
+ghost use Prim.Native.Nat.{_*_, _/_, _≤_, _<_};
 ghost use mathlib.Core.Path.{_≡_};
 ghost use lib.ListN.{length};
 ghost use Rattle.boundary.specs.Corners.{cornersOf};
@@ -121,7 +121,7 @@ fn at_once(numbers: &[u32], r: Rectangle, cell: Rectangle, level: u32) -> Choice
 // The first of a level in one cell of it, or of a coarser level.
 fn in_cell(
     numbers: &[u32],
-    room: &mut [u16],
+    room: &mut [u32],
     r: Rectangle,
     cell: Rectangle,
     level: u32,
@@ -150,7 +150,7 @@ fn in_cell(
 // turn.
 fn in_column(
     numbers: &[u32],
-    room: &mut [u16],
+    room: &mut [u32],
     r: Rectangle,
     level: u32,
     top: u32,
@@ -183,7 +183,7 @@ fn in_column(
 }
 
 // The first of a level: its own west sides, or a coarser level's, in turn.
-fn in_level(numbers: &[u32], room: &mut [u16], r: Rectangle, level: u32, top: u32) -> Choice
+fn in_level(numbers: &[u32], room: &mut [u32], r: Rectangle, level: u32, top: u32) -> Choice
     requires { ⌜ Ready (now numbers) (now room) level top ⌝ }
     requires { ⌜ Over (cornersOf (now numbers)) r ⌝ }
     requires { ⌜ Levels level top ⌝ }
@@ -219,7 +219,7 @@ fn near_level(numbers: &[u32], r: Rectangle, level: u32) -> Choice
     requires { ⌜ Levels level level ⌝ }
     ensures { λ c. ⌜ Best (cornersOf (now (numbers .entry))) level everywhere c ⌝ }
 {
-    let mut none = [0u16; 1];
+    let mut none = [0u32; 1];
     in_level(numbers, &mut none, r, level, level)
 }
 
@@ -244,8 +244,8 @@ pub(crate) fn near(numbers: &[u32], r: Rectangle) -> Nearby
 }
 
 // The chosen cell: levels from one up to 27 in turn, by halving.
-pub(crate) fn far(numbers: &[u32], room: &mut [u16], r: Rectangle, start: u32) -> Choice
-    requires { ⌜ length (now numbers) / 2 ≤ length (now room) ⌝ }
+pub(crate) fn far(numbers: &[u32], room: &mut [u32], r: Rectangle, start: u32) -> Choice
+    requires { ⌜ 4 * (length (now numbers) / 2) ≤ length (now room) ⌝ }
     requires { ⌜ length (now numbers) / 2 ≤ 1024 ⌝ }
     requires { ⌜ Over (cornersOf (now numbers)) r ⌝ }
     requires { ⌜ InRange (cornersOf (now numbers)) ⌝ }
