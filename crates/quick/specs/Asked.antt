@@ -78,11 +78,11 @@ UnfitBefore r level = (n : ℕ) → n < level → 9 ≤ n → tooWide r n ≡ tr
 abbrev pub Fits : Rectangle → Rectangle → Bool → Type 0
 Fits cell r fits = fits ≡ false → Within cell r → ⊥
 
--- Where halving starts from a coarser level, all places stand in the room
+-- Where halving starts from a coarser level, all edges stand in the room
 abbrev pub Ready : List ℕ → List ℕ → ℕ → ℕ → Type 0
 Ready numbers room level top = top < level → Listed numbers room
 
--- All places that stood in a room stand in it later
+-- All edges that stood in a room stand in it later
 abbrev pub StillListed : List ℕ → List ℕ → List ℕ → Type 0
 StillListed numbers room later = Listed numbers room → Listed numbers later
 

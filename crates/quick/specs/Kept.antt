@@ -1,30 +1,38 @@
--- The edges that are kept for a half, by their places in a lent room, and what has to be so of a half. Assumes nothing.
-use Prim.Native.Nat.{ℕ, zero, suc, _-_, _/_, _≤_, _<_}
+-- The edges that are kept for a half, in a lent room, and what has to be so of a half. Assumes nothing.
+use Prim.Native.Nat.{ℕ, _+_, _-_, _*_, _/_, _≤_, _<_}
 use mathlib.Core.Path.{_≡_}
 use mathlib.Core.Bool.{Bool}
-use mathlib.Core.List.{List, [], _∷_, map}
-use lib.ListN.{length, getD}
+use mathlib.Core.List.{List, map}
+use lib.ListN.{length, set}
 use Rattle.ground.specs.declared.Point.{Point}
 use Rattle.ground.specs.declared.Rectangle.{Rectangle}
-use Rattle.boundary.specs.Boundary.{Edge, edgesOf, pointInside}
-use Rattle.boundary.specs.Corners.{cornersOf}
+use Rattle.boundary.specs.Boundary.{Edge, edge, edgesOf, pointInside}
+use Rattle.boundary.specs.Corners.{cornersOf, cornerAt}
 use Rattle.boundary.specs.Missing.{Within}
 use Rattle.boundary.specs.Parity.{Room}
 use Rattle.boundary.specs.Keeping.{Keeps, edgeAt, upFrom}
 use Rattle.quick.specs.declared.half.Half.{Half}
 
--- So many entries of a room from one on
-abbrev pub gather : List ℕ → ℕ → ℕ → List ℕ
-gather room zero i = []
-gather room (suc n) i = getD room i 0 ∷ gather room n (suc i)
+-- The edge at a place of a room, its start and its end as two corners
+abbrev pub edgeIn : List ℕ → ℕ → Edge
+edgeIn room i = edge (cornerAt room (2 * i)) (cornerAt room (2 * i + 1))
 
--- The edges whose places stand in a room, from one to before another
-abbrev pub keptIn : List ℕ → List ℕ → ℕ → ℕ → List Edge
-keptIn numbers room from to = map (edgeAt numbers) (gather room (to - from) from)
+-- The edges that stand in a room, from one place to before another
+abbrev pub keptIn : List ℕ → ℕ → ℕ → List Edge
+keptIn room from to = map (edgeIn room) (upFrom (to - from) from)
 
--- A later room with the same entries before a place
+-- A room with a corner put at a place
+abbrev pub withCorner : List ℕ → ℕ → Point → List ℕ
+withCorner room i p = set (set room (2 * i) (p .lat .0)) (2 * i + 1) (p .lon .0)
+
+-- A later room with the same edges before a place
 abbrev pub Same : ℕ → List ℕ → List ℕ → Type 0
-Same to room later = (j : ℕ) → j < to → getD later j 0 ≡ getD room j 0
+Same to room later = (j : ℕ) → j < to → edgeIn later j ≡ edgeIn room j
+
+-- A later room with an edge added at a place, behind the same edges
+pub record Added (place : ℕ) (e : Edge) (room later : List ℕ) : Type 0 where
+  pub there : edgeIn later place ≡ e
+  pub before : Same place room later
 
 -- The south-west corner of a rectangle
 abbrev pub southWest : Rectangle → Point
@@ -34,11 +42,11 @@ southWest r = record { lat = r .south; lon = r .west }
 abbrev pub oddAt : List ℕ → Point → Bool
 oddAt numbers p = pointInside p (edgesOf (cornersOf numbers))
 
--- Places in a room of edges that are kept for a rectangle
+-- Edges in a room that are kept for a rectangle
 pub record Placed (numbers room : List ℕ) (r : Rectangle) (from to : ℕ) : Type 0 where
-  pub keeps : Keeps (cornersOf numbers) r (keptIn numbers room from to)
+  pub keeps : Keeps (cornersOf numbers) r (keptIn room from to)
   pub first : from ≤ to
-  pub last : to ≤ length room
+  pub last : 4 * to ≤ length room
 
 -- What is known of a half is so
 pub record Sound (numbers room : List ℕ) (h : Half) : Type 0 where
@@ -51,7 +59,7 @@ pub record Part (h : Half) (part : Rectangle) : Type 0 where
   pub wide : Room part
   pub within : Within part (h .ground)
 
--- All places of a boundary stand in a room from its start
+-- All edges of a boundary stand in a room from its start
 pub record Listed (numbers room : List ℕ) : Type 0 where
-  pub fits : length numbers / 2 ≤ length room
-  pub all : gather room (length numbers / 2) 0 ≡ upFrom (length numbers / 2) 0
+  pub fits : 4 * (length numbers / 2) ≤ length room
+  pub all : (j : ℕ) → j < length numbers / 2 → edgeIn room j ≡ edgeAt numbers j

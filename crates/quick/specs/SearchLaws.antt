@@ -6,7 +6,7 @@ use native.Mathlib.Omega.{arith}
 use mathlib.Core.Path.{_≡_, refl, sym, ap, subst, _∙_}
 use mathlib.Core.Logic.{_⊎_, inl, inr}
 use mathlib.Core.Bool.{Bool, true, false, _||_}
-use mathlib.Core.List.{List, [], _∷_, map}
+use mathlib.Core.List.{List, [], _∷_}
 use lib.Dec.{T, ltb}
 use lib.ListN.{length}
 use borrow.Author.Tests.{ltb-true}
@@ -22,7 +22,7 @@ use Rattle.ground.specs.Halves.{Span, narrowest, narrow-wide}
 use Rattle.boundary.specs.Boundary.{inside}
 use Rattle.boundary.specs.Corners.{cornersOf}
 use Rattle.boundary.specs.Missing.{Within, Ordered, either}
-use Rattle.boundary.specs.Keeping.{Keeps, edgeAt, keeps-places}
+use Rattle.boundary.specs.Keeping.{Keeps, keeps-places}
 use Rattle.boundary.specs.Products.{either-way}
 use Rattle.unit.specs.declared.Choice.{Choice}
 use Rattle.unit.specs.declared.Choice.the-variants.{At, Nowhere}
@@ -31,9 +31,9 @@ use Rattle.unit.specs.InExtents.{least-each, greatest-each, in-extents}
 use Rattle.unit.specs.Chosen.{choose}
 use Rattle.unit.specs.Choosing.{InRange, Over, chosen-choose, none-choose}
 use Rattle.quick.specs.Asked.{ByLat, Levels, Ground, column, everywhere, tooWide, UnfitBefore, NoneInside}
-use Rattle.quick.specs.Kept.{gather, Same, southWest, oddAt, Sound, Listed}
+use Rattle.quick.specs.Kept.{Same, southWest, oddAt, Sound, Listed}
 use Rattle.quick.specs.HalfLaws.{ground-cell, only-cell}
-use Rattle.quick.specs.KeptLaws.{gather-same}
+use Rattle.quick.specs.KeptLaws.{listed-kept}
 use Rattle.quick.specs.Best.{Wanted, Best, earlier, levelOf, cell-room, before-most, best-all, best-west, best-north, best-east}
 
 -- An answer of two tests in turn: the first where it holds
@@ -109,14 +109,10 @@ extremes-order (v ∷ vs) =
 over-order : {corners : List Point} {r : Rectangle} → Over corners r → Ordered r
 over-order {corners} o = subst Ordered (sym (o .own)) (extremes-order corners)
 
--- All places stand in a later room with the same entries
+-- All edges stand in a later room with the same edges
 pub listed-same : {numbers room later : List ℕ} → Listed numbers room → length later ≡ length room
     → Same (length numbers / 2) room later → Listed numbers later
-listed-same {numbers} {room} {later} l long same =
-    record {
-      fits = omega (arith, l .fits);
-      all = gather-same room later (length numbers / 2) 0 (λ j p q. same j (omega arith)) ∙ l .all;
-    }
+listed-same l long same = record { fits = omega (arith, l .fits); all = λ j h. same j h ∙ l .all j h }
 
 -- Two halvings a level lead down from the level to start from
 pub two-each : {finest top : ℕ} → Levels finest top → finest - 2 * (finest - top) / 2 ≡ top
@@ -127,16 +123,13 @@ pub sound-all : {numbers room : List ℕ} {top : ℕ} {cell : Rectangle} {odd : 
     → Ground top cell → odd ≡ oddAt numbers (southWest cell)
     → Sound numbers room (record { ground = cell; odd = odd; from = 0; to = length numbers / 2 })
 sound-all {numbers} {room} {top} {cell} l coarsest finest g is =
-    let all : length numbers / 2 - 0 ≡ length numbers / 2 = omega arith in
     record {
       wide = record {
         across = omega (arith, g .lon .high, low-below-high top (cell .west .0) coarsest finest);
         up = omega (arith, g .lat .high, low-below-high top (cell .south .0) coarsest finest);
       };
       placed = record {
-        keeps =
-            subst (λ (es : List ℕ). Keeps (cornersOf numbers) cell (map (edgeAt numbers) es))
-            (sym (ap (λ (n : ℕ). gather room n 0) all ∙ l .all)) (keeps-places numbers cell);
+        keeps = subst (Keeps (cornersOf numbers) cell) (sym (listed-kept l)) (keeps-places numbers cell);
         first = omega arith;
         last = l .fits;
       };

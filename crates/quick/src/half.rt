@@ -7,8 +7,8 @@ use ground::Lon;
 use ground::Point;
 use ground::Rectangle;
 
-// The ground of a half; whether the count is odd at its south-west corner; and where the places of
-// the edges that are kept for it stand in the room, from the first to before the last.
+// The ground of a half; whether the count is odd at its south-west corner; and where the edges that
+// are kept for it stand in the room, by their places there, from the first to before the last.
 pub struct Half {
     pub ground: Rectangle,
     pub odd: bool,

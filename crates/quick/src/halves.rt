@@ -47,7 +47,7 @@ pub(crate) fn lon_split(r: Rectangle, finest: u32, left: u32) -> Lon
 }
 
 // A part of a half with its south-west corner: the count there is the whole's.
-pub(crate) fn same_corner(numbers: &[u32], room: &mut [u16], half: Half, part: Rectangle) -> Half
+pub(crate) fn same_corner(numbers: &[u32], room: &mut [u32], half: Half, part: Rectangle) -> Half
     requires { ⌜ Sound (now numbers) (now room) half ⌝ }
     requires { ⌜ Part half part ⌝ }
     requires { ⌜ southWest part ≡ southWest (half .ground) ⌝ }
@@ -58,7 +58,7 @@ pub(crate) fn same_corner(numbers: &[u32], room: &mut [u16], half: Half, part: R
 }
 
 // A part with a corner of its own: the count there is turned by the kept edges alone.
-pub(crate) fn other_corner(numbers: &[u32], room: &mut [u16], half: Half, part: Rectangle) -> Half
+pub(crate) fn other_corner(numbers: &[u32], room: &mut [u32], half: Half, part: Rectangle) -> Half
     requires { ⌜ Sound (now numbers) (now room) half ⌝ }
     requires { ⌜ Part half part ⌝ }
     ensures { λ h. ⌜ (h .ground ≡ part) × Sound (now (numbers .entry)) (now (room .exit)) h ⌝ }

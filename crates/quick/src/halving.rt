@@ -22,7 +22,7 @@ use unit::Choice;
 
 // The test for passing over: no edge meets the half, and its centre is not inside, where the count is
 // what it is at the south-west corner.
-fn passed_over(numbers: &[u32], room: &[u16], half: Half) -> bool
+fn passed_over(numbers: &[u32], room: &[u32], half: Half) -> bool
     requires { ⌜ Sound (now numbers) (now room) half ⌝ }
     ensures { λ p. ⌜ p ≡ passesOver (cornersOf (now (numbers .entry))) (half .ground) ⌝ }
 {
@@ -33,7 +33,7 @@ fn passed_over(numbers: &[u32], room: &[u16], half: Half) -> bool
 }
 
 // The cell of a level that a half is, if it is inside.
-fn tried(numbers: &[u32], room: &[u16], half: Half, level: u32) -> Choice
+fn tried(numbers: &[u32], room: &[u32], half: Half, level: u32) -> Choice
     requires { ⌜ Sound (now numbers) (now room) half ⌝ }
     requires { ⌜ ByLat level 0 (half .ground) ⌝ }
     ensures { λ c. ⌜ Best (cornersOf (now (numbers .entry))) level level (half .ground) c ⌝ }
@@ -89,7 +89,7 @@ pub(crate) fn level_of(found: Choice, none: u32) -> u32
 // it is of no finer level.
 pub(crate) fn by_lat(
     numbers: &[u32],
-    room: &mut [u16],
+    room: &mut [u32],
     half: Half,
     finest: u32,
     left: u32,
@@ -127,7 +127,7 @@ pub(crate) fn by_lat(
 
 // Halves by longitude, and goes on by latitude. East of what is found a cell comes earlier only where it
 // is of a coarser level.
-fn by_lon(numbers: &[u32], room: &mut [u16], half: Half, finest: u32, left: u32) -> Choice
+fn by_lon(numbers: &[u32], room: &mut [u32], half: Half, finest: u32, left: u32) -> Choice
     requires { ⌜ Sound (now numbers) (now room) half ⌝ }
     requires { ⌜ ByLon finest left (half .ground) ⌝ }
     ensures { λ c. ⌜ Best (cornersOf (now (numbers .entry))) (finest - left / 2) finest (half .ground) c ⌝ }

@@ -1,68 +1,105 @@
-// The edges that are kept for a half, by their places in the boundary: an edge that misses a half
-// misses all in it, and is left out on the way down.
-ghost use Prim.Native.Nat.{_/_, _≤_, _<_};
+// The edges that are kept for a half, in a lent room: an edge that misses a half misses all in it,
+// and is left out on the way down. An edge stands there as four numbers: latitude and longitude of
+// its start, then of its end.
+ghost use Prim.Native.Nat.{_+_, _*_, _/_, _≤_, _<_};
 ghost use mathlib.Core.Path.{_≡_};
+ghost use mathlib.Core.Bool.{true};
 ghost use lib.ListN.{length};
-ghost use Rattle.boundary.specs.Boundary.{edgesOf, misses, unmet as Boundary·unmet};
-ghost use Rattle.boundary.specs.Corners.{cornersOf};
+ghost use Rattle.boundary.specs.Boundary.{edge, edgesOf, misses, unmet as Boundary·unmet};
+ghost use Rattle.boundary.specs.Corners.{cornersOf, cornerAt};
 ghost use Rattle.boundary.specs.Parity.{Lies};
-ghost use Rattle.boundary.specs.Keeping.{nextPlace, edgeAt, turns};
-ghost use Rattle.quick.specs.Kept.{Same, southWest, oddAt, Placed, Sound, Part, Listed};
+ghost use Rattle.boundary.specs.Keeping.{nextPlace};
+ghost use Rattle.quick.specs.Kept.{edgeIn, withCorner, Same, Added, southWest, oddAt, Placed, Sound, Part, Listed};
 use crate::half::Half;
 use crate::half::corner_of;
 use boundary::corner;
+use ground::Lat;
 use ground::Lon;
 use ground::Point;
 use ground::Rectangle;
 
-// Where places stand in the room.
+// Where edges stand in the room: from a first place to before a last.
 pub struct Places {
     pub from: usize,
     pub to: usize,
 }
 
+// The corner at a place of the room, where the start and the end of each edge stand in turn.
+fn corner_at(room: &[u32], i: usize) -> Point
+    requires { ⌜ 2 * i + 1 < length (now room) ⌝ }
+    ensures { λ p. ⌜ p ≡ cornerAt (now (room .entry)) i ⌝ }
+{
+    Point {
+        lat: Lat(room[2 * i]),
+        lon: Lon(room[2 * i + 1]),
+    }
+}
+
+// Puts a corner at such a place.
+fn put_corner(room: &mut [u32], i: usize, p: Point)
+    requires { ⌜ 2 * i + 1 < length (now room) ⌝ }
+    ensures { λ _. ⌜ now (room .exit) ≡ withCorner (now (room .entry)) i p ⌝ }
+{
+    let lat = p.lat;
+    let lon = p.lon;
+    room[2 * i] = lat.0;
+    room[2 * i + 1] = lon.0;
+}
+
+// The start of the edge at a place of the room.
+fn start_at(room: &[u32], place: usize) -> Point
+    requires { ⌜ 4 * place + 3 < length (now room) ⌝ }
+    ensures { λ p. ⌜ p ≡ edgeIn (now (room .entry)) place .start ⌝ }
+{
+    corner_at(room, 2 * place)
+}
+
+// Its end.
+fn end_at(room: &[u32], place: usize) -> Point
+    requires { ⌜ 4 * place + 3 < length (now room) ⌝ }
+    ensures { λ p. ⌜ p ≡ edgeIn (now (room .entry)) place .end ⌝ }
+{
+    corner_at(room, 2 * place + 1)
+}
+
+// Puts an edge at a place of the room; those before it stay.
+fn put(room: &mut [u32], place: usize, a: Point, b: Point)
+    requires { ⌜ 4 * place + 3 < length (now room) ⌝ }
+    ensures { λ _. ⌜ Added place (edge a b) (now (room .entry)) (now (room .exit)) ⌝ }
+{
+    put_corner(room, 2 * place, a);
+    put_corner(room, 2 * place + 1, b);
+}
+
 // The place after a place of a boundary: after the last comes the first.
-fn next(numbers: &[u32], place: u16) -> usize
+fn next(numbers: &[u32], place: usize) -> usize
+    requires { ⌜ place < length (now numbers) / 2 ⌝ }
     ensures { λ r. ⌜ r ≡ nextPlace (now (numbers .entry)) place ⌝ }
 {
-    let after = place as usize + 1;
+    let after = place + 1;
     if after == numbers.len() / 2 { 0 } else { after }
 }
 
-// Whether the edge at a place misses a rectangle.
-fn misses_at(numbers: &[u32], place: u16, r: Rectangle) -> bool
-    ensures { λ m. ⌜ m ≡ misses (edgeAt (now (numbers .entry)) place) r ⌝ }
-{
-    let a = corner(numbers, place as usize);
-    let b = corner(numbers, next(numbers, place));
-    boundary::misses(a, b, r)
-}
-
-// Whether the edge at a place turns the count between two points west of an east side.
-fn turns_at(numbers: &[u32], place: u16, p: Point, q: Point, east: Lon) -> bool
-    ensures { λ m. ⌜ m ≡ turns east p q (edgeAt (now (numbers .entry)) place) ⌝ }
-{
-    let a = corner(numbers, place as usize);
-    let b = corner(numbers, next(numbers, place));
-    boundary::turns(p, q, east, a, b)
-}
-
-// Puts the places of all edges at the room's start.
-pub(crate) fn list_all(numbers: &[u32], room: &mut [u16])
-    requires { ⌜ length (now numbers) / 2 ≤ length (now room) ⌝ }
-    requires { ⌜ length (now numbers) / 2 ≤ 1024 ⌝ }
+// Puts all edges at the room's start.
+pub(crate) fn list_all(numbers: &[u32], room: &mut [u32])
+    requires { ⌜ 4 * (length (now numbers) / 2) ≤ length (now room) ⌝ }
     ensures { λ _. ⌜ Listed (now (numbers .entry)) (now (room .exit)) ⌝ }
 {
     let count = numbers.len() / 2;
     let mut i = 0;
     while i < count {
-        room[i] = i as u16;
+        put(
+            room,
+            i,
+            corner(numbers, i),
+            corner(numbers, next(numbers, i)),
+        );
         i += 1;
     }
 }
 
 // Whether no edge meets a half.
-pub(crate) fn unmet(numbers: &[u32], room: &[u16], half: Half) -> bool
+pub(crate) fn unmet(numbers: &[u32], room: &[u32], half: Half) -> bool
     requires { ⌜ Sound (now numbers) (now room) half ⌝ }
     ensures { λ m. ⌜ m ≡ Boundary·unmet (half .ground) (edgesOf (cornersOf (now (numbers .entry)))) ⌝ }
 {
@@ -70,7 +107,7 @@ pub(crate) fn unmet(numbers: &[u32], room: &[u16], half: Half) -> bool
     let to = half.to;
     let mut i = half.from;
     while i < to {
-        if !misses_at(numbers, room[i], ground) {
+        if !boundary::misses(start_at(room, i), end_at(room, i), ground) {
             return false;
         }
         i += 1;
@@ -79,7 +116,7 @@ pub(crate) fn unmet(numbers: &[u32], room: &[u16], half: Half) -> bool
 }
 
 // Whether the count is odd at another point of a half.
-pub(crate) fn odd_at(numbers: &[u32], room: &[u16], half: Half, q: Point) -> bool
+pub(crate) fn odd_at(numbers: &[u32], room: &[u32], half: Half, q: Point) -> bool
     requires { ⌜ Sound (now numbers) (now room) half ⌝ }
     requires { ⌜ Lies (half .ground) q ⌝ }
     ensures { λ m. ⌜ m ≡ oddAt (now (numbers .entry)) q ⌝ }
@@ -91,14 +128,41 @@ pub(crate) fn odd_at(numbers: &[u32], room: &[u16], half: Half, q: Point) -> boo
     let mut odd = half.odd;
     let mut i = half.from;
     while i < to {
-        odd = odd != turns_at(numbers, room[i], p, q, east);
+        odd = odd != boundary::turns(p, q, east, start_at(room, i), end_at(room, i));
         i += 1;
     }
     odd
 }
 
-// Those of a half's edges that meet a part of it, put behind them; all of them where the room ends.
-fn keep(numbers: &[u32], room: &mut [u16], half: Half, part: Rectangle) -> Places
+// Whether a point lies strictly within a rectangle. It only decides what a search costs, and nothing
+// is promised of it.
+fn within(p: Point, r: Rectangle) -> bool {
+    let lat = p.lat;
+    let lon = p.lon;
+    let west = r.west;
+    let east = r.east;
+    let south = r.south;
+    let north = r.north;
+    west.0 < lon.0 && lon.0 < east.0 && south.0 < lat.0 && lat.0 < north.0
+}
+
+// Whether an edge may be left out for a rectangle: one with an end strictly within is kept without a
+// further test, and of the others those that miss it are left out.
+fn clear(a: Point, b: Point, r: Rectangle) -> bool
+    ensures { λ m. ⌜ (m ≡ true → misses (edge a b) r ≡ true) ⌝ }
+{
+    if within(a, r) {
+        return false;
+    }
+    if within(b, r) {
+        return false;
+    }
+    boundary::misses(a, b, r)
+}
+
+// Those of a half's edges that may not be left out for a part of it, put behind them; all of them
+// where the room ends.
+fn keep(numbers: &[u32], room: &mut [u32], half: Half, part: Rectangle) -> Places
     requires { ⌜ Sound (now numbers) (now room) half ⌝ }
     requires { ⌜ Part half part ⌝ }
     ensures { λ p. ⌜ Placed (now (numbers .entry)) (now (room .exit)) part (p .from) (p .to) ⌝ }
@@ -109,12 +173,13 @@ fn keep(numbers: &[u32], room: &mut [u16], half: Half, part: Rectangle) -> Place
     let mut end = to;
     let mut i = from;
     while i < to {
-        let place = room[i];
-        if !misses_at(numbers, place, part) {
-            if room.len() <= end {
+        let a = start_at(room, i);
+        let b = end_at(room, i);
+        if !clear(a, b, part) {
+            if room.len() / 4 <= end {
                 return Places { from, to };
             }
-            room[end] = place;
+            put(room, end, a, b);
             end += 1;
         }
         i += 1;
@@ -125,7 +190,7 @@ fn keep(numbers: &[u32], room: &mut [u16], half: Half, part: Rectangle) -> Place
 // A part of a half, with its edges and the count at its south-west corner.
 pub(crate) fn part_of(
     numbers: &[u32],
-    room: &mut [u16],
+    room: &mut [u32],
     half: Half,
     part: Rectangle,
     odd: bool,

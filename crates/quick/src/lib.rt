@@ -47,8 +47,8 @@ fn chosen(numbers: &[u32], r: Rectangle) -> Choice
     }
 }
 
-// The search by halving, with a room for the places of kept edges; where it is full, edges are kept
-// that need not be.
+// The search by halving, with a room for 8,192 kept edges; where it is full, edges are kept that need
+// not be.
 fn far(numbers: &[u32], r: Rectangle, level: u32) -> Choice
     requires { ⌜ length (now numbers) / 2 ≤ 1024 ⌝ }
     requires { ⌜ Over (cornersOf (now numbers)) r ⌝ }
@@ -56,6 +56,6 @@ fn far(numbers: &[u32], r: Rectangle, level: u32) -> Choice
     requires { ⌜ NoneInside (cornersOf (now numbers)) level ⌝ }
     ensures { λ c. ⌜ c ≡ choose (cornersOf (now (numbers .entry))) ⌝ }
 {
-    let mut places = [0u16; 16384];
-    search::far(numbers, &mut places, r, level)
+    let mut edges = [0u32; 32768];
+    search::far(numbers, &mut edges, r, level)
 }

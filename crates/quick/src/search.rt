@@ -1,7 +1,7 @@
 // The search for the chosen cell, from the first level whose cells can fit the extents. Near levels, of
 // which few cells lie over the extents, go cell by cell, in turn; the others some together, by halving
 // the cells of a coarser level that lie over the extents.
-ghost use Prim.Native.Nat.{_/_, _≤_, _<_};
+ghost use Prim.Native.Nat.{_*_, _/_, _≤_, _<_};
 ghost use mathlib.Core.Path.{_≡_};
 ghost use lib.ListN.{length};
 ghost use Rattle.boundary.specs.Corners.{cornersOf};
@@ -122,7 +122,7 @@ fn at_once(numbers: &[u32], r: Rectangle, cell: Rectangle, level: u32) -> Choice
 // The first cell of the levels from one to another in a cell of the first of them.
 fn in_cell(
     numbers: &[u32],
-    room: &mut [u16],
+    room: &mut [u32],
     r: Rectangle,
     cell: Rectangle,
     finest: u32,
@@ -150,7 +150,7 @@ fn in_cell(
 // The first between two sides of the coarsest level: that level's south sides in turn.
 fn in_column(
     numbers: &[u32],
-    room: &mut [u16],
+    room: &mut [u32],
     r: Rectangle,
     finest: u32,
     top: u32,
@@ -184,7 +184,7 @@ fn in_column(
 
 // The first of the levels from one to another: the first level's west sides in turn. What is of that
 // level is not bettered further east.
-fn in_levels(numbers: &[u32], room: &mut [u16], r: Rectangle, finest: u32, top: u32) -> Choice
+fn in_levels(numbers: &[u32], room: &mut [u32], r: Rectangle, finest: u32, top: u32) -> Choice
     requires { ⌜ Ready (now numbers) (now room) finest top ⌝ }
     requires { ⌜ Over (cornersOf (now numbers)) r ⌝ }
     requires { ⌜ Levels finest top ⌝ }
@@ -229,7 +229,7 @@ fn near_level(numbers: &[u32], r: Rectangle, level: u32) -> Choice
     requires { ⌜ Levels level level ⌝ }
     ensures { λ c. ⌜ Best (cornersOf (now (numbers .entry))) level level everywhere c ⌝ }
 {
-    let mut none = [0u16; 1];
+    let mut none = [0u32; 1];
     in_levels(numbers, &mut none, r, level, level)
 }
 
@@ -264,8 +264,8 @@ fn finest_with(level: u32) -> u32
 
 // The chosen cell, where none of a level before one is inside: the levels up to 27, some together, by
 // halving.
-pub(crate) fn far(numbers: &[u32], room: &mut [u16], r: Rectangle, start: u32) -> Choice
-    requires { ⌜ length (now numbers) / 2 ≤ length (now room) ⌝ }
+pub(crate) fn far(numbers: &[u32], room: &mut [u32], r: Rectangle, start: u32) -> Choice
+    requires { ⌜ 4 * (length (now numbers) / 2) ≤ length (now room) ⌝ }
     requires { ⌜ length (now numbers) / 2 ≤ 1024 ⌝ }
     requires { ⌜ Over (cornersOf (now numbers)) r ⌝ }
     requires { ⌜ InRange (cornersOf (now numbers)) ⌝ }

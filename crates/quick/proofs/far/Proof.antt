@@ -1,4 +1,4 @@
--- `quick::far` meets its contract: the room holds the places of 1,024 corners. Assumes nothing.
+-- `quick::far` meets its contract: the room holds the edges of 1,024 corners. Assumes nothing.
 use native.Mathlib.Omega.{arith}
 use borrow.Author.Needs.{needs}
 use Rattle.quick.proofs.far.Statement.{statement}

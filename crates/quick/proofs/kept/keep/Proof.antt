@@ -1,10 +1,13 @@
 -- `quick::kept::keep` meets its contract: the edges put behind the half's, with those still to be seen, are kept. Assumes nothing.
-use Prim.Native.Nat.{_-_, _<_}
-use borrow.Author.Needs.{needs}
+use Prim.Native.Nat.{_+_, _-_, _*_, _<_}
 use native.Mathlib.Omega.{arith}
+use mathlib.Core.Path.{_≡_, ap₂}
 use mathlib.Core.Logic.{⊎-elim}
+use borrow.Author.Needs.{needs}
 use lib.ListN.{length}
-use Rattle.quick.specs.KeptLaws.{Moved, moved-begin, moved-misses, moved-meets, moved-as, moved-end, moved-full}
+use Rattle.boundary.specs.Boundary.{edge}
+use Rattle.quick.specs.Kept.{edgeIn}
+use Rattle.quick.specs.KeptLaws.{Moved, moved-begin, moved-clear, moved-added, moved-as, moved-end, moved-full}
 use Rattle.quick.proofs.kept.keep.Statement.{statement}
 use Rattle.quick.proofs.kept.keep.Tie as tie
 
@@ -15,35 +18,37 @@ abbrev μ-loop : tie.MeasureT-loop
 μ-loop numbers room₀ part from to end₀ i₀ room end i = to - i
 
 -- the loop's place is one of the room
-in-room : (c : tie.In-loop Inv-loop μ-loop) → c .before .loop .i < length (c .before .loop .room)
+in-room : (c : tie.In-loop Inv-loop μ-loop) → 4 * c .before .loop .i + 3 < length (c .before .loop .room)
 in-room c = omega (arith, c .loop-test .taken, c .before .loop .inv .first, c .before .loop .inv .last)
 
+-- the edge there
+seen : (c : tie.After-end-at Inv-loop μ-loop)
+    → edge (c .before .before .start-at .result) (c .end-at .result) ≡ edgeIn (c .before .before .before .before .before .loop .room) (c .before .before .before .before .before .loop .i)
+seen c = ap₂ edge (c .before .before .start-at .ensures) (c .end-at .ensures)
+
 loop-holds : tie.Need-loop-holds Inv-loop μ-loop
-loop-holds c = moved-begin (c .before .before .pre .0) (c .before .before .pre .1)
+loop-holds c = let start = c .before .before in moved-begin (start .pre .0) (start .pre .1)
 
-mul-place : tie.Need-mul-place Inv-loop μ-loop
-mul-place c = let h = in-room c in search needs
+start-at-requires : tie.Need-start-at-requires Inv-loop μ-loop
+start-at-requires c κs = in-room (c .before)
 
-slice-read-place : tie.Need-slice-read-place Inv-loop μ-loop
-slice-read-place c = in-room (c .before)
+end-at-requires : tie.Need-end-at-requires Inv-loop μ-loop
+end-at-requires c κs = in-room (c .before .before .before)
 
-misses-at-requires : tie.Need-misses-at-requires Inv-loop μ-loop
-misses-at-requires c κs = search needs
+clear-requires : tie.Need-clear-requires Inv-loop μ-loop
+clear-requires c κs = search needs
 
 same-length : tie.Need-same-length Inv-loop μ-loop
-same-length c = c .before .before .before .before .before .loop .inv .long
+same-length c = c .before .before .before .before .before .before .before .before .loop .inv .long
 
 returns : tie.Need-returns Inv-loop μ-loop
 returns c =
-    let at = c .before .before .before .before .before in
+    let at = c .before .before .before .before .before .before .before .before in
     let start = at .before .before .before in
     (moved-full (start .pre .0) (start .pre .1) (at .loop .inv), (search needs, at .loop .inv .same))
 
-mul-room : tie.Need-mul-room Inv-loop μ-loop
-mul-room c = search needs
-
-slice-write-room : tie.Need-slice-write-room Inv-loop μ-loop
-slice-write-room c = search needs
+put-requires : tie.Need-put-requires Inv-loop μ-loop
+put-requires c κs = omega (arith, c .before .if2 .left)
 
 add-end : tie.Need-add-end Inv-loop μ-loop
 add-end c = search needs
@@ -56,10 +61,12 @@ loop-less c = search needs
 
 loop-again : tie.Need-loop-again Inv-loop μ-loop
 loop-again c =
-    let at = c .before .before .before in
+    let ends = c .before .before in
+    let at = ends .before .before .before .before in
     let m = at .before .loop .inv in
-    ⊎-elim (λ w. moved-as (w .2) (w .3) (moved-meets m (at .loop-test .taken) (w .1 .left)))
-    (λ w. moved-as (w .1) (w .2) (moved-misses m (at .loop-test .taken) (c .before .misses-at .ensures) (w .0 .left)))
+    ⊎-elim
+    (λ w. moved-as (w .6) (w .7) (moved-added m (at .loop-test .taken) (omega (arith, w .1 .left)) (w .3 .ensures) (seen ends) (search needs)))
+    (λ w. moved-as (w .1) (w .2) (moved-clear m (at .loop-test .taken) (c .before .clear .ensures) (seen ends) (w .0 .left)))
     (c .if1 .came)
 
 same-length-2 : tie.Need-same-length-2 Inv-loop μ-loop
@@ -75,13 +82,12 @@ keep-spec =
     Inv-loop
     μ-loop
     loop-holds
-    mul-place
-    slice-read-place
-    misses-at-requires
+    start-at-requires
+    end-at-requires
+    clear-requires
     same-length
     returns
-    mul-room
-    slice-write-room
+    put-requires
     add-end
     add-i
     loop-less

@@ -1,8 +1,11 @@
 -- `quick::kept::odd_at` meets its contract: the edges from place i on are still to be counted. Assumes nothing.
-use Prim.Native.Nat.{_-_, _<_}
-use borrow.Author.Needs.{needs}
+use Prim.Native.Nat.{_+_, _-_, _*_, _<_}
 use native.Mathlib.Omega.{arith}
+use mathlib.Core.Path.{ap, ap₂, _∙_}
+use borrow.Author.Needs.{needs}
 use lib.ListN.{length}
+use Rattle.boundary.specs.Boundary.{edge}
+use Rattle.boundary.specs.Keeping.{turns}
 use Rattle.quick.specs.KeptLaws.{OddLeft, odd-begin, odd-again, odd-end}
 use Rattle.quick.proofs.kept.odd_at.Statement.{statement}
 use Rattle.quick.proofs.kept.odd_at.Tie as tie
@@ -15,7 +18,7 @@ abbrev μ-loop : tie.MeasureT-loop
 
 -- the loop's place is one of the room
 in-room : (c : tie.In-loop Inv-loop μ-loop)
-    → c .before .loop .i < length (c .before .before .before .before .before .before .before .args .room .now)
+    → 4 * c .before .loop .i + 3 < length (c .before .before .before .before .before .before .before .args .room .now)
 in-room c = omega (arith, c .loop-test .taken, c .before .before .before .before .before .before .before .pre .0 .placed .last)
 
 corner-of-requires : tie.Need-corner-of-requires Inv-loop μ-loop
@@ -26,14 +29,14 @@ loop-holds c =
     let start = c .before .before .before .before .before in
     odd-begin (start .pre .0) (start .pre .1) (c .corner-of .ensures)
 
-mul-turns-at : tie.Need-mul-turns-at Inv-loop μ-loop
-mul-turns-at c = let h = in-room c in search needs
+start-at-requires : tie.Need-start-at-requires Inv-loop μ-loop
+start-at-requires c κs = in-room c
 
-shared-slice-read-turns-at : tie.Need-shared-slice-read-turns-at Inv-loop μ-loop
-shared-slice-read-turns-at c = in-room (c .before)
+end-at-requires : tie.Need-end-at-requires Inv-loop μ-loop
+end-at-requires c κs = in-room (c .before)
 
-turns-at-requires : tie.Need-turns-at-requires Inv-loop μ-loop
-turns-at-requires c κs = search needs
+turns-requires : tie.Need-turns-requires Inv-loop μ-loop
+turns-requires c κs = search needs
 
 add-i : tie.Need-add-i Inv-loop μ-loop
 add-i c = search needs
@@ -43,8 +46,14 @@ loop-less c = search needs
 
 loop-again : tie.Need-loop-again Inv-loop μ-loop
 loop-again c =
-    let at = c .before .before in
-    odd-again (at .before .loop .inv) (at .loop-test .taken) (c .turns-at .ensures)
+    let ends = c .before in
+    let at = ends .before .before in
+    let corner = at .before .before in
+    let start = corner .before .before .before .before .before in
+    odd-again (at .before .loop .inv) (at .loop-test .taken)
+    (c .turns .ensures
+    ∙ ap (turns (start .args .half .ground .east) (corner .corner-of .result) (start .args .q))
+    (ap₂ edge (ends .before .start-at .ensures) (ends .end-at .ensures)))
 
 returns : tie.Need-returns Inv-loop μ-loop
 returns c = odd-end (c .before .loop .inv) (c .loop-test .left)
@@ -57,9 +66,9 @@ odd-at-spec =
     μ-loop
     corner-of-requires
     loop-holds
-    mul-turns-at
-    shared-slice-read-turns-at
-    turns-at-requires
+    start-at-requires
+    end-at-requires
+    turns-requires
     add-i
     loop-less
     loop-again

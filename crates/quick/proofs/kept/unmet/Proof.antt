@@ -1,8 +1,11 @@
 -- `quick::kept::unmet` meets its contract: what the edges from place i on say is still to be found. Assumes nothing.
-use Prim.Native.Nat.{_-_, _<_}
-use borrow.Author.Needs.{needs}
+use Prim.Native.Nat.{_+_, _-_, _*_, _<_}
 use native.Mathlib.Omega.{arith}
+use mathlib.Core.Path.{_≡_, ap, ap₂, _∙_}
+use borrow.Author.Needs.{needs}
 use lib.ListN.{length}
+use Rattle.boundary.specs.Boundary.{Edge, edge, misses}
+use Rattle.quick.specs.Kept.{edgeIn}
 use Rattle.quick.specs.KeptLaws.{UnmetLeft, unmet-begin, unmet-met, unmet-again, unmet-end}
 use Rattle.quick.proofs.kept.unmet.Statement.{statement}
 use Rattle.quick.proofs.kept.unmet.Tie as tie
@@ -14,25 +17,34 @@ abbrev μ-loop : tie.MeasureT-loop
 μ-loop numbers room ground to i₀ i = to - i
 
 -- the loop's place is one of the room
-in-room : (c : tie.In-loop Inv-loop μ-loop) → c .before .loop .i < length (c .before .before .before .before .before .args .room .now)
+in-room : (c : tie.In-loop Inv-loop μ-loop)
+    → 4 * c .before .loop .i + 3 < length (c .before .before .before .before .before .args .room .now)
 in-room c = omega (arith, c .loop-test .taken, c .before .before .before .before .before .pre .placed .last)
+
+-- what is told of the edge there
+told : (c : tie.After-misses Inv-loop μ-loop)
+    → c .misses .result ≡ misses (edgeIn (c .before .before .before .before .before .before .before .before .args .room .now) (c .before .before .before .before .loop .i)) (c .before .before .before .before .before .before .before .before .args .half .ground)
+told c =
+    let start = c .before .before .before .before .before .before .before .before in
+    c .misses .ensures
+    ∙ ap (λ (e : Edge). misses e (start .args .half .ground)) (ap₂ edge (c .before .before .start-at .ensures) (c .before .end-at .ensures))
 
 loop-holds : tie.Need-loop-holds Inv-loop μ-loop
 loop-holds c = unmet-begin (c .before .before .before .pre)
 
-mul-misses-at : tie.Need-mul-misses-at Inv-loop μ-loop
-mul-misses-at c = let h = in-room c in search needs
+start-at-requires : tie.Need-start-at-requires Inv-loop μ-loop
+start-at-requires c κs = in-room c
 
-shared-slice-read-misses-at : tie.Need-shared-slice-read-misses-at Inv-loop μ-loop
-shared-slice-read-misses-at c = in-room (c .before)
+end-at-requires : tie.Need-end-at-requires Inv-loop μ-loop
+end-at-requires c κs = in-room (c .before)
 
-misses-at-requires : tie.Need-misses-at-requires Inv-loop μ-loop
-misses-at-requires c κs = search needs
+misses-requires : tie.Need-misses-requires Inv-loop μ-loop
+misses-requires c κs = search needs
 
 returns : tie.Need-returns Inv-loop μ-loop
 returns c =
-    let at = c .before .before .before in
-    unmet-met (at .before .loop .inv) (at .loop-test .taken) (c .before .misses-at .ensures) (c .if1 .taken)
+    let at = c .before .before .before .before in
+    unmet-met (at .before .loop .inv) (at .loop-test .taken) (told (c .before)) (c .if1 .taken)
 
 add-i : tie.Need-add-i Inv-loop μ-loop
 add-i c = search needs
@@ -42,8 +54,8 @@ loop-less c = search needs
 
 loop-again : tie.Need-loop-again Inv-loop μ-loop
 loop-again c =
-    let at = c .before .before .before in
-    unmet-again (at .before .loop .inv) (at .loop-test .taken) (c .before .misses-at .ensures) (c .if1 .left)
+    let at = c .before .before .before .before in
+    unmet-again (at .before .loop .inv) (at .loop-test .taken) (told (c .before)) (c .if1 .left)
 
 returns-2 : tie.Need-returns-2 Inv-loop μ-loop
 returns-2 c = unmet-end (c .before .loop .inv) (c .loop-test .left)
@@ -55,9 +67,9 @@ unmet-spec =
     Inv-loop
     μ-loop
     loop-holds
-    mul-misses-at
-    shared-slice-read-misses-at
-    misses-at-requires
+    start-at-requires
+    end-at-requires
+    misses-requires
     returns
     add-i
     loop-less

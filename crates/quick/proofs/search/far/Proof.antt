@@ -19,7 +19,7 @@ abbrev μ-loop : tie.MeasureT-loop
 μ-loop numbers room₀ r start level₀ room level = 28 - level
 
 list-all-requires : tie.Need-list-all-requires Inv-loop μ-loop
-list-all-requires c κs = let start = c .before .before .before in (start .pre .0, start .pre .1 .0)
+list-all-requires c κs = c .before .before .before .pre .0
 
 loop-holds : tie.Need-loop-holds Inv-loop μ-loop
 loop-holds c =

@@ -1,5 +1,5 @@
 -- `quick::search::in_cell` meets its contract: a cell of the only level at once; else all edges are kept for the cell, and the halving
--- leaves their places. Assumes nothing.
+-- leaves them. Assumes nothing.
 use Prim.Native.Nat.{ℕ, _<_}
 use native.Mathlib.Omega.{arith}
 use mathlib.Core.Path.{ap, subst, _∙_}
