@@ -1,7 +1,7 @@
 -- An edge that misses a rectangle: what the test says of it, and that it misses every rectangle within. Assumes nothing.
 use Prim.Native.Nat.{ℕ, _+_, _*_, _≤_, _<_}
 use native.Mathlib.Omega.{arith}
-use mathlib.Core.Path.{_≡_, refl, ap₂}
+use mathlib.Core.Path.{_≡_, refl, ap, ap₂}
 use mathlib.Core.Logic.{_⊎_, inl, inr}
 use mathlib.Core.Bool.{Bool, true, false, _&&_, _||_, false≢true}
 use mathlib.Core.List.{List, [], _∷_}
@@ -67,6 +67,19 @@ either false b e = inr e
 pub or-right : (a : Bool) {b : Bool} → b ≡ true → (a || b) ≡ true
 or-right true q = refl
 or-right false q = q
+
+-- An edge that is beyond a side misses, and so does one with all corners on one side of its line
+pub misses-beyond : (e : Edge) (r : Rectangle) → beyond e r ≡ true → misses e r ≡ true
+unfolding misses
+misses-beyond e r t = ap (λ (b : Bool). b || allLeft (e .start) (e .end) r || allLeft (e .end) (e .start) r) t
+
+pub misses-aside : (e : Edge) (r : Rectangle) → (allLeft (e .start) (e .end) r || allLeft (e .end) (e .start) r) ≡ true → misses e r ≡ true
+unfolding misses
+misses-aside e r t = at (beyond e r) (allLeft (e .start) (e .end) r) (allLeft (e .end) (e .start) r) t
+  where
+    at : (a b c : Bool) → (b || c) ≡ true → (a || b || c) ≡ true
+    at true b c q = refl
+    at false b c q = q
 
 -- Two comparisons, both ways
 two : (a b c d : ℕ) → (leb a b && leb c d) ≡ true → (a ≤ b) × (c ≤ d)

@@ -147,7 +147,8 @@ fn within(p: Point, r: Rectangle) -> bool {
 }
 
 // Whether an edge may be left out for a rectangle: one with an end strictly within is kept without a
-// further test, and of the others those that miss it are left out.
+// further test, and of the others those that miss it are left out. The comparisons stand here by
+// themselves, so that a call is made only where they leave it open.
 fn clear(a: Point, b: Point, r: Rectangle) -> bool
     ensures { λ m. ⌜ (m ≡ true → misses (edge a b) r ≡ true) ⌝ }
 {
@@ -157,7 +158,7 @@ fn clear(a: Point, b: Point, r: Rectangle) -> bool
     if within(b, r) {
         return false;
     }
-    boundary::misses(a, b, r)
+    boundary::beyond(a, b, r) || boundary::aside(a, b, r)
 }
 
 // Those of a half's edges that may not be left out for a part of it, put behind them; all of them
