@@ -266,7 +266,6 @@ fn finest_with(level: u32) -> u32
 // halving.
 pub(crate) fn far(numbers: &[u32], room: &mut [u32], r: Rectangle, start: u32) -> Choice
     requires { ⌜ 4 * (length (now numbers) / 2) ≤ length (now room) ⌝ }
-    requires { ⌜ length (now numbers) / 2 ≤ 1024 ⌝ }
     requires { ⌜ Over (cornersOf (now numbers)) r ⌝ }
     requires { ⌜ InRange (cornersOf (now numbers)) ⌝ }
     requires { ⌜ NoneInside (cornersOf (now numbers)) start ⌝ }

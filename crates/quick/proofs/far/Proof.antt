@@ -10,7 +10,7 @@ slice-aggregate-far c = search needs
 far-requires : tie.Need-far-requires
 far-requires c κs =
     let p = c .before .before .pre in
-    (omega (arith, p .0), (p .0, (p .1 .0, (p .1 .1 .0, p .1 .1 .1))))
+    (omega (arith, p .0), p .1)
 
 returns : tie.Need-returns
 returns c = search needs

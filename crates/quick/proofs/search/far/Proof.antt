@@ -25,7 +25,7 @@ loop-holds : tie.Need-loop-holds Inv-loop μ-loop
 loop-holds c =
     let listed = c .before .before in
     let start = listed .before .before .before .before in
-    (listed .list-all .ensures, search needs, start .pre .1 .1 .1 .1)
+    (listed .list-all .ensures, search needs, start .pre .1 .1 .1)
 
 finest-with-requires : tie.Need-finest-with-requires Inv-loop μ-loop
 finest-with-requires c κs = omega (arith, c .loop-test .taken)
@@ -43,7 +43,7 @@ in-levels-requires : tie.Need-in-levels-requires Inv-loop μ-loop
 in-levels-requires c κs =
     let loop = c .before .before .before .before in
     let start = loop .before .before .before .before .before .before .before in
-    (λ _. loop .loop .inv .0, (start .pre .1 .1 .0, levels c))
+    (λ _. loop .loop .inv .0, (start .pre .1 .0, levels c))
 
 enum-known-found : tie.Need-enum-known-found Inv-loop μ-loop
 enum-known-found c = search needs
@@ -57,7 +57,7 @@ returns c =
     let top = searched .before in
     let loop = top .before .before .before .before in
     let start = loop .before .before .before .before .before .before .before in
-    sym (levels-found (loop .loop .inv .2) (levels top) (top .top-of .ensures .1) (start .pre .1 .1 .1 .0) (searched .in-levels .ensures .0) (c .before .found .given .1))
+    sym (levels-found (loop .loop .inv .2) (levels top) (top .top-of .ensures .1) (start .pre .1 .1 .0) (searched .in-levels .ensures .0) (c .before .found .given .1))
 
 enum-told : tie.Need-enum-told Inv-loop μ-loop
 enum-told c = search needs
@@ -87,7 +87,7 @@ returns-2 : tie.Need-returns-2 Inv-loop μ-loop
 returns-2 c =
     let loop = c .before in
     let start = loop .before .before .before .before .before .before .before in
-    sym (levels-end (loop .loop .inv .2) (start .pre .1 .1 .1 .0) (omega (arith, c .loop-test .left)))
+    sym (levels-end (loop .loop .inv .2) (start .pre .1 .1 .0) (omega (arith, c .loop-test .left)))
 
 pub far-spec : {M : Type 1} → statement M
 far-spec =
