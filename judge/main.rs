@@ -10,6 +10,7 @@ mod broken;
 mod cases;
 mod changes;
 mod code;
+mod far;
 mod grid;
 mod lines;
 mod plain;

@@ -5,9 +5,11 @@ use std::io::{self, Write};
 use crate::asked::{inside_request, meets_request, odd_request};
 use crate::broken::{broken, noise, BAD_NUMBERS};
 use crate::code::{bits_of, parts_of, spell, Fields, Parts, LENGTH, LETTERS, NUMBER_MAX};
-use crate::grid::{DEGREE, LAT_END, LON_END, MINUTE, STEP};
+use crate::far::far;
+use crate::grid::{Point, DEGREE, LAT_END, LON_END, MINUTE, STEP};
 use crate::lines::LINE_MAX;
 use crate::random::Random;
+use crate::shapes;
 use crate::trials::{request_of, Request};
 use crate::units;
 
@@ -17,11 +19,13 @@ type Maker = fn(&mut Random) -> Vec<u8>;
 type Share = (u64, Maker);
 
 /// The kinds of requests with their shares.
-const KINDS: [(&str, u64, Maker); 8] = [
+const KINDS: [(&str, u64, Maker); 10] = [
     ("write", 25, write_request),
     ("read", 30, read_request),
     ("plain", 15, plain_request),
     ("quick", 15, quick_request),
+    ("plain-units", 5, plain_unit),
+    ("quick-units", 5, quick_unit),
     ("meets", 10, meets_request),
     ("odd", 10, odd_request),
     ("inside", 15, inside_request),
@@ -309,6 +313,27 @@ fn code_request(random: &mut Random, road: &str) -> Vec<u8> {
         return units::filled(line, LINE_MAX + random.index(2));
     }
     line
+}
+
+/// A small unit that passes checks 1 to 6, so that the plain road has to search.
+fn plain_unit(random: &mut Random) -> Vec<u8> {
+    let (corners, _) = shapes::small(random);
+    unit_request(random, "plain", &corners)
+}
+
+/// The same for the quick road; every third unit is one on which it has to go
+/// far down.
+fn quick_unit(random: &mut Random) -> Vec<u8> {
+    let corners = if random.one_in(3) { far(random) } else { shapes::small(random).0 };
+    unit_request(random, "quick", &corners)
+}
+
+fn unit_request(random: &mut Random, road: &str, corners: &[Point]) -> Vec<u8> {
+    let any = random.between(20, 64);
+    let room = random.pick(&[20, 20, 20, 20, 21, 64, any]);
+    let (kind, number) = units::good_number(random);
+    let start = format!("{road} {room} ").into_bytes();
+    [start, units::line_of(kind, number, &units::coordinates_of(corners))].concat()
 }
 
 /// A malformed request, now and then one that is only nearly so.

@@ -44,7 +44,7 @@ pub fn agree(seed: u64, count: u64, output: &mut impl Write) -> io::Result<bool>
 pub fn selftest(output: &mut impl Write) -> io::Result<bool> {
     let mut good = cases(output)?;
     good &= agree(1, 2_000, output)?;
-    let tests: [(&str, fn() -> bool); 14] = [
+    let tests: [(&str, fn() -> bool); 15] = [
         ("letters", letters_good),
         ("grid", grid_good),
         ("meeting", meeting_good),
@@ -59,6 +59,7 @@ pub fn selftest(output: &mut impl Write) -> io::Result<bool> {
         ("inside and the plain search", inside_good),
         ("borders of edges", edges_good),
         ("answers of random questions", questions_good),
+        ("random units that pass checks 1 to 6", units_good),
     ];
     for (name, test) in tests {
         let passed = test();
@@ -191,7 +192,7 @@ fn changes_good() -> bool {
 }
 
 /// What the trials answer to a fixed list.
-fn answers(list: fn(&mut Vec<u8>) -> io::Result<()>) -> String {
+fn answers(list: impl FnOnce(&mut Vec<u8>) -> io::Result<()>) -> String {
     let (mut requests, mut answers) = (Vec::new(), Vec::new());
     // Writing into a Vec does not fail.
     let _ = list(&mut requests).and_then(|()| trials(requests.as_slice(), &mut answers));
@@ -327,5 +328,17 @@ fn questions_good() -> bool {
             && (2_000..3_000).contains(&count(b'0'))
             && count(b'?') < 20
             && answers.len() == 10_000
+    })
+}
+
+/// The units that are made to reach the search do, and meet each answer that
+/// can then be given.
+fn units_good() -> bool {
+    ["plain-units", "quick-units"].iter().all(|kind| {
+        let answered = answers(|output| match kinds_of(kind) {
+            Some(share) => requests(9, 2_000, &share, output),
+            None => Ok(()),
+        });
+        answered.lines().count() == 2_000 && meet(&answered, "0 7 8")
     })
 }

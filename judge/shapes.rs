@@ -27,12 +27,17 @@ pub fn small(random: &mut Random) -> (Vec<Point>, Option<Cell>) {
 
 /// A unit of any sort in the ranges of latitude and longitude.
 pub fn any(random: &mut Random) -> Vec<Point> {
-    let mut corners = match random.below(10) {
+    let corners = match random.below(10) {
         0..=1 => cell_unit(random),
         2..=3 => cut_unit(random),
         4 => spiked(random),
         _ => placed(random),
     };
+    listed(random, corners)
+}
+
+/// The corners from any of them in either direction, one perhaps repeated.
+pub fn listed(random: &mut Random, mut corners: Vec<Point>) -> Vec<Point> {
     let start = random.index(corners.len());
     corners.rotate_left(start);
     if random.one_in(2) {
@@ -80,7 +85,7 @@ fn reach(random: &mut Random) -> i64 {
 }
 
 /// Where a unit of this length starts so that it lies at a border.
-fn base(random: &mut Random, length: i64, end: i64) -> i64 {
+pub fn base(random: &mut Random, length: i64, end: i64) -> i64 {
     let border = border(random, end);
     let before = match random.below(4) {
         0 => 0,
@@ -118,8 +123,14 @@ fn drawn(random: &mut Random, height: i64, width: i64) -> Vec<Point> {
         5 => angled(random, height, width),
         6 => bow_tie(height, width),
         7 => collinear(random, height, width),
-        8 => comb(random, height, width),
-        9 => star(random, height, width),
+        8 => {
+            let teeth = random.between(2, 8);
+            comb(random, teeth, height, width)
+        }
+        9 => {
+            let count = random.index(10) + 3;
+            star(random, count, height, width)
+        }
         10 => stairs(random, height, width),
         11 if random.one_in(5) => {
             let count = random.index(200) + 10;
@@ -134,7 +145,7 @@ fn drawn(random: &mut Random, height: i64, width: i64) -> Vec<Point> {
 }
 
 /// The shape as it is, or turned over in either direction.
-fn mirrored(random: &mut Random, shape: Vec<Point>, height: i64, width: i64) -> Vec<Point> {
+pub fn mirrored(random: &mut Random, shape: Vec<Point>, height: i64, width: i64) -> Vec<Point> {
     let (over, across) = (random.one_in(2), random.one_in(2));
     let turn = |p: Point| Point {
         lat: if over { height - p.lat } else { p.lat },
@@ -206,8 +217,7 @@ fn collinear(random: &mut Random, height: i64, width: i64) -> Vec<Point> {
 }
 
 /// Teeth that stand on a strip.
-fn comb(random: &mut Random, height: i64, width: i64) -> Vec<Point> {
-    let teeth = random.between(2, 8);
+pub fn comb(random: &mut Random, teeth: i64, height: i64, width: i64) -> Vec<Point> {
     let strip = random.between(0, height / 2);
     let pitch = width / teeth;
     let mut corners = vec![at(0, teeth * pitch), at(0, 0)];
@@ -233,8 +243,7 @@ fn stairs(random: &mut Random, height: i64, width: i64) -> Vec<Point> {
 }
 
 /// Random corners in order around the middle of the box.
-fn star(random: &mut Random, height: i64, width: i64) -> Vec<Point> {
-    let count = random.index(10) + 3;
+pub fn star(random: &mut Random, count: usize, height: i64, width: i64) -> Vec<Point> {
     let mut corners = points(random, count, height, width);
     // Twice the way from a middle that no corner is level with, so that the
     // order is a whole one.

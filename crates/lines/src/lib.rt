@@ -1,8 +1,8 @@
 // The listing's lines: a line that grows byte by byte, the numbers and the unit in it, and the reply
 // that is put into an output buffer.
 //
-// No function here reads or writes anything but what it is lent, none has a `requires`, and each
-// contract is an equation to a definition of specs/.
+// No function here reads or writes anything but what it is lent, no public one has a `requires`, and
+// each contract is an equation to a definition of specs/.
 mod line;
 mod number;
 mod output;
