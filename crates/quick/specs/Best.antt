@@ -55,7 +55,7 @@ eastOf r at = record { west = at; east = r .east; south = r .south; north = r .n
 abbrev pub sooner : Cell → Cell → Bool
 sooner d c = cond (eqb (d .level) (c .level)) (ltb (d .west .0) (c .west .0)) (ltb (d .level) (c .level))
 
--- The first of two answers, where a later cell of the same level and west side is no lower
+-- The first of two answers by level and west side; the first one where these are the same
 abbrev pub earlier : Choice → Choice → Choice
 earlier Nowhere second = second
 earlier (At c) Nowhere = At c

@@ -287,20 +287,6 @@ module _ {level left : ℕ} {r : Rectangle} (b : ByLon level left r) {at : Lon} 
       by-lat-of (whole-half (level - left / 2 - 1) (omega (arith, b .coarsest)) (omega (arith, b .coarsest, b .finest)) (b .lon) (sym split-lon ∙ same))
       (b .east-end)
 
--- Ground that halvings by latitude are left for is that of a cell itself
-pub lat-cell : {level left : ℕ} {r : Rectangle} → ByLat level left r → ByLat (level - left / 2) 0 r
-lat-cell {level} {left} {r} b =
-    let same : level - left / 2 ≡ level - left / 2 - 0 / 2 = omega arith in
-    record {
-      even = omega arith;
-      coarsest = omega (arith, b .coarsest);
-      finest = omega (arith, b .finest);
-      lat = subst (λ (n : ℕ). Span n (r .south .0) (r .north .0)) same (b .lat);
-      lon = subst (λ (n : ℕ). Span n (r .west .0) (r .east .0)) same (b .lon);
-      north-end = b .north-end;
-      east-end = b .east-end;
-    }
-
 -- Fewer halvings are left to a coarser level that is not passed yet
 pub by-lon-limit : {level left limit : ℕ} {r : Rectangle} → ByLon level left r → limit ≤ level → level - left / 2 ≤ limit
     → ByLon limit (left - 2 * (level - limit)) r
@@ -329,6 +315,12 @@ by-lat-limit {level} {left} {limit} {r} b most least =
       north-end = b .north-end;
       east-end = b .east-end;
     }
+
+-- none to the level of the cell that the ground is itself
+pub lat-cell : {level left : ℕ} {r : Rectangle} → ByLat level left r → ByLat (level - left / 2) 0 r
+lat-cell {level} {left} {r} b =
+    let none : left - 2 * (level - (level - left / 2)) ≡ 0 = omega (arith, b .even, b .coarsest) in
+    subst (λ (n : ℕ). ByLat (level - left / 2) n r) none (by-lat-limit b (omega arith) (omega arith))
 
 module _ (corners : List Point) {level left : ℕ} {r : Rectangle} (b : ByLat level left r) (some : 0 < left) where
   -- Ground that is no inside cell itself has the answer of the finer levels

@@ -153,16 +153,8 @@ by-lat-all {finest} {top} {cell} l g =
 -- With none left where halving starts from the level itself
 pub by-lat-none : {level : ℕ} {cell : Rectangle} → 9 ≤ level → level ≤ 27 → Ground level cell → ByLat level 0 cell
 by-lat-none {level} {cell} coarsest finest g =
-    let same : level ≡ level - 0 / 2 = omega arith in
-    record {
-      even = omega arith;
-      coarsest = omega arith;
-      finest = finest;
-      lat = subst (λ (n : ℕ). Span n (cell .south .0) (cell .north .0)) same (g .lat);
-      lon = subst (λ (n : ℕ). Span n (cell .west .0) (cell .east .0)) same (g .lon);
-      north-end = g .north-end;
-      east-end = g .east-end;
-    }
+    let none : 2 * (level - level) ≡ 0 = omega arith in
+    subst (λ (n : ℕ). ByLat level n cell) none (by-lat-all (record { coarsest = coarsest; below = omega arith; finest = finest }) g)
 
 -- A cell whose ground does not lie within the extents is not inside
 pub out-none : {corners : List Point} {r : Rectangle} → Over corners r → {level : ℕ} {cell : Rectangle} → ByLat level 0 cell

@@ -59,7 +59,7 @@ fn sooner(d: Cell, c: Cell) -> bool
     d.level < c.level
 }
 
-// The first of two answers, where a later cell of the same level and west side is no lower.
+// The first of two answers by level and west side; the first one where these are the same.
 pub(crate) fn earlier(first: Choice, second: Choice) -> Choice
     ensures { λ c. ⌜ c ≡ Best·earlier first second ⌝ }
 {

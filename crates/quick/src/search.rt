@@ -210,7 +210,8 @@ fn in_levels(numbers: &[u32], room: &mut [u32], r: Rectangle, finest: u32, top: 
 }
 
 // Up to how many cells of a near level lie over an extent in a row: fewer for a long list of corners, of
-// which each near cell tries all. It only decides what a search costs, and nothing is promised of it.
+// which each near cell tries all. It only decides what a search costs, and nothing more is promised of
+// it.
 fn reach(corners: usize) -> u32
     ensures { λ n. ⌜ 0 < n ⌝ }
 {
