@@ -162,7 +162,7 @@ fn clear(a: Point, b: Point, r: Rectangle) -> bool
 }
 
 // Those of a half's edges that may not be left out for a part of it, put behind them; all of them
-// where the room ends.
+// where the room ends, and where they are but two, which cost less to ask than to sort.
 fn keep(numbers: &[u32], room: &mut [u32], half: Half, part: Rectangle) -> Places
     requires { ⌜ Sound (now numbers) (now room) half ⌝ }
     requires { ⌜ Part half part ⌝ }
@@ -171,6 +171,9 @@ fn keep(numbers: &[u32], room: &mut [u32], half: Half, part: Rectangle) -> Place
 {
     let from = half.from;
     let to = half.to;
+    if to - from <= 2 {
+        return Places { from, to };
+    }
     let mut end = to;
     let mut i = from;
     while i < to {
