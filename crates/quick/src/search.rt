@@ -215,7 +215,7 @@ fn in_levels(numbers: &[u32], room: &mut [u32], r: Rectangle, finest: u32, top: 
 fn reach(corners: usize) -> u32
     ensures { λ n. ⌜ 0 < n ⌝ }
 {
-    if 256 < corners { 6 } else { 16 }
+    if 256 < corners { 8 } else { 16 }
 }
 
 // What the near levels tell: the chosen cell, or the level to go on with.
