@@ -5,7 +5,9 @@ use mathlib.Core.Bool.{Bool, true, false, cond}
 use mathlib.Core.List.{List, [], _∷_}
 use Rattle.ground.specs.declared.Point.{Point}
 use Rattle.boundary.specs.Boundary.{Edge, joined, noLength, withLength, edgesOf, crossesEast, pointInside}
-use Rattle.boundary.specs.Odd.{differ, Each, inside-odd, even-around}
+use Rattle.boundary.specs.Odd.{inside-odd, even-around}
+use Rattle.facts.specs.Tests.{differ}
+use Rattle.facts.specs.Lists.{Each}
 use Rattle.boundary.specs.Parity.{low, west-none, below-none, above-none, east-counts}
 
 -- What holds of each corner, and so of both ends of an edge, holds of each edge

@@ -13,7 +13,8 @@ use Rattle.ground.specs.CellTest.{low-below-high}
 use Rattle.boundary.specs.Boundary.{Edge, edgesOf, misses, crossesEast, left, pointInside, unmet, inside}
 use Rattle.boundary.specs.Boundary.{edge}
 use Rattle.boundary.specs.Walk.{next, total, Sums, around, around-next, around-reverse, around-set}
-use Rattle.boundary.specs.Odd.{differ, differ-comm, inside-odd}
+use Rattle.boundary.specs.Odd.{inside-odd}
+use Rattle.facts.specs.Tests.{differ, differ-assoc, differ-comm}
 use Rattle.boundary.specs.Parity.{Room}
 use Rattle.boundary.specs.Insert.{OnEdge, on-start, crosses-other-way, crosses-set, misses-one-point}
 use Rattle.boundary.specs.Parts.{misses-other-way, misses-set}
@@ -92,13 +93,7 @@ module _ (r : Rectangle) where
 
 -- Odd counts
 pub differ-sums : Sums differ false
-differ-sums = record { assoc = assoc; comm = differ-comm; none = λ x. refl }
-  where
-    assoc : (x y z : Bool) → differ (differ x y) z ≡ differ x (differ y z)
-    assoc true true true = refl
-    assoc true true false = refl
-    assoc true false z = refl
-    assoc false y z = refl
+differ-sums = record { assoc = differ-assoc; comm = differ-comm; none = λ x. refl }
 
 module _ (q : Point) where
   -- An edge of no length crosses nothing

@@ -11,7 +11,7 @@ use Rattle.ground.specs.declared.Lon.{Lon}
 use Rattle.ground.specs.declared.Point.{Point}
 use Rattle.ground.specs.declared.Rectangle.{Rectangle}
 use Rattle.boundary.specs.Boundary.{leftSum, rightSum, leftOrOn, allLeft}
-use Rattle.boundary.specs.Products.{product-le}
+use Rattle.facts.specs.Numbers.{product-le}
 use Rattle.boundary.specs.Missing.{Ordered, Holds}
 
 -- Going with or left of the line keeps a point left of it

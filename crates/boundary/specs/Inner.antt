@@ -9,7 +9,8 @@ use Rattle.ground.specs.declared.Rectangle.{Rectangle}
 use Rattle.ground.specs.declared.Cell.{Cell}
 use Rattle.ground.specs.Cells.{sidesOf, centreOf}
 use Rattle.boundary.specs.Boundary.{edgesOf, pointInside, unmet, inside}
-use Rattle.boundary.specs.Missing.{Within, Ordered, both, unmet-within}
+use Rattle.boundary.specs.Missing.{Within, Ordered, unmet-within}
+use Rattle.facts.specs.Tests.{both}
 use Rattle.boundary.specs.Parity.{Lies, Room, same-inside}
 
 -- The centre of a rectangle with room lies in it

@@ -12,9 +12,9 @@ use Rattle.ground.specs.declared.Lon.{Lon}
 use Rattle.ground.specs.declared.Point.{Point}
 use Rattle.ground.specs.declared.Rectangle.{Rectangle}
 use Rattle.boundary.specs.Boundary.{leftSum, rightSum, left, leftOrOn, allLeft, beyond, misses, crossesEast}
-use Rattle.boundary.specs.Products.{product-le, product-lt, either-way}
+use Rattle.facts.specs.Numbers.{product-le, product-lt, either-way}
 use Rattle.boundary.specs.Boundary.{edge}
-use Rattle.boundary.specs.Odd.{differ}
+use Rattle.facts.specs.Tests.{differ, same-truth}
 
 -- A number between two others, ends included
 abbrev pub Between : ℕ → ℕ → ℕ → Type 0
@@ -43,15 +43,6 @@ other-way a b q = omega arith
 left-back : (a b q : Point) → left b a q ≡ ltb (leftSum a b q) (rightSum a b q)
 unfolding left
 left-back a b q = ap₂ ltb (sym (other-way b a q)) (other-way a b q)
-
--- Two truths that follow from each other are one
-pub same-truth : {x y : Bool} → (x ≡ true → y ≡ true) → (y ≡ true → x ≡ true) → x ≡ y
-same-truth {x} {y} there back = at x y there back
-  where
-    at : (x y : Bool) → (x ≡ true → y ≡ true) → (y ≡ true → x ≡ true) → x ≡ y
-    at true y there back = sym (there refl)
-    at false true there back = back refl
-    at false false there back = refl
 
 -- The differences l - r and m - s have one sign: times positive differences, high - low and top - base, they are equal
 pub record SameSign (l r m s : ℕ) : Type 0 where

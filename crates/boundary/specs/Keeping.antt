@@ -16,7 +16,9 @@ use Rattle.boundary.specs.Boundary.{Edge, edge, joined, edgesOf, misses,
 use Rattle.boundary.specs.Corners.{cornersOf, cornerAt, corners-length, corners-from}
 use Rattle.boundary.specs.Missing.{Within, Ordered, missed, misses-within}
 use Rattle.boundary.specs.Walk.{total, Sums, total-with-length}
-use Rattle.boundary.specs.Odd.{differ, oddly, Each, differ-self, inside-odd, odd-differ, even-around}
+use Rattle.boundary.specs.Odd.{oddly, inside-odd, odd-differ, even-around}
+use Rattle.facts.specs.Tests.{differ, differ-self}
+use Rattle.facts.specs.Lists.{Each}
 use Rattle.boundary.specs.Parity.{Lies, between, tells}
 use Rattle.boundary.specs.Insert.{misses-one-point}
 use Rattle.boundary.specs.Changes.{and-sums, unmet-total, differ-sums}

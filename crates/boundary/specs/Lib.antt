@@ -1,6 +1,5 @@
 pub mod Boundary
 pub mod Corners
-pub mod Products
 pub mod Signs
 pub mod Missing
 pub mod Extreme

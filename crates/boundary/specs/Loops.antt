@@ -16,7 +16,8 @@ use Rattle.boundary.specs.Boundary.{Edge, edgesOf, misses, unmet, crosse
 use Rattle.boundary.specs.Corners.{cornersOf, cornerAt, corners-length, corners-from}
 use Rattle.boundary.specs.Boundary.{edge}
 use Rattle.boundary.specs.Walk.{Sums, way, around-way}
-use Rattle.boundary.specs.Odd.{differ, inside-odd}
+use Rattle.boundary.specs.Odd.{inside-odd}
+use Rattle.facts.specs.Tests.{differ}
 use Rattle.boundary.specs.Insert.{misses-one-point}
 use Rattle.boundary.specs.Changes.{and-sums, unmet-total, differ-sums, crosses-one-point}
 

@@ -3,17 +3,17 @@ use Prim.Native.Nat.{ℕ, _+_, _*_, _≤_, _<_}
 use native.Mathlib.Omega.{arith}
 use mathlib.Core.Path.{_≡_, refl, ap, ap₂}
 use mathlib.Core.Logic.{_⊎_, inl, inr}
-use mathlib.Core.Bool.{Bool, true, false, _&&_, _||_, false≢true}
+use mathlib.Core.Bool.{Bool, true, false, _&&_, _||_}
 use mathlib.Core.List.{List, [], _∷_}
 use lib.Dec.{leb}
 use borrow.Author.Tests.{leb-true, le-leb}
 use Rattle.ground.specs.declared.Lat.{Lat}
 use Rattle.ground.specs.declared.Lon.{Lon}
-use Rattle.replies.specs.Tests.{either-left}
+use Rattle.facts.specs.Tests.{both, either, either-left, either-right}
 use Rattle.ground.specs.declared.Point.{Point}
 use Rattle.ground.specs.declared.Rectangle.{Rectangle}
 use Rattle.boundary.specs.Boundary.{Edge, leftSum, rightSum, leftOrOn, allLeft, beyond, misses, unmet}
-use Rattle.boundary.specs.Products.{product-le, either-way}
+use Rattle.facts.specs.Numbers.{product-le, either-way}
 
 -- A rectangle within another
 pub record Within (r s : Rectangle) : Type 0 where
@@ -54,19 +54,6 @@ pub data Missed (e : Edge) (r : Rectangle) : Type 0 where
   north : r .north .0 ≤ e .start .lat .0 → r .north .0 ≤ e .end .lat .0 → Missed e r
   onLeft : LeftOf (e .start) (e .end) r → Missed e r
   onRight : LeftOf (e .end) (e .start) r → Missed e r
-
--- Tests joined by "and" and "or"
-pub both : (a b : Bool) → (a && b) ≡ true → (a ≡ true) × (b ≡ true)
-both true b e = (refl, e)
-both false b e = absurd (false≢true e)
-
-pub either : (a b : Bool) → (a || b) ≡ true → (a ≡ true) ⊎ (b ≡ true)
-either true b e = inl refl
-either false b e = inr e
-
-pub or-right : (a : Bool) {b : Bool} → b ≡ true → (a || b) ≡ true
-or-right true q = refl
-or-right false q = q
 
 -- An edge that is beyond a side misses, and so does one with all corners on one side of its line
 pub misses-beyond : (e : Edge) (r : Rectangle) → beyond e r ≡ true → misses e r ≡ true
@@ -194,11 +181,11 @@ module _ (e : Edge) (r : Rectangle) where
   pub misses-so : Ordered r → Missed e r → misses e r ≡ true
   unfolding misses
   misses-so o (west h k) = either-left backward (either-left forward (either-left northward (either-left southward (either-left eastward (two-back h k)))))
-  misses-so o (east h k) = either-left backward (either-left forward (either-left northward (either-left southward (or-right westward (two-back h k)))))
-  misses-so o (south h k) = either-left backward (either-left forward (either-left northward (or-right (westward || eastward) (two-back h k))))
-  misses-so o (north h k) = either-left backward (either-left forward (or-right (westward || eastward || southward) (two-back h k)))
-  misses-so o (onLeft l) = either-left backward (or-right (beyond e r) (left-all (e .start) (e .end) o l))
-  misses-so o (onRight l) = or-right (beyond e r || forward) (left-all (e .end) (e .start) o l)
+  misses-so o (east h k) = either-left backward (either-left forward (either-left northward (either-left southward (either-right westward (two-back h k)))))
+  misses-so o (south h k) = either-left backward (either-left forward (either-left northward (either-right (westward || eastward) (two-back h k))))
+  misses-so o (north h k) = either-left backward (either-left forward (either-right (westward || eastward || southward) (two-back h k)))
+  misses-so o (onLeft l) = either-left backward (either-right (beyond e r) (left-all (e .start) (e .end) o l))
+  misses-so o (onRight l) = either-right (beyond e r || forward) (left-all (e .end) (e .start) o l)
 
 module _ {r s : Rectangle} (o : Ordered r) (h : Within r s) where
   -- A point of a rectangle is one of each rectangle that it is within

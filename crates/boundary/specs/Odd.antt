@@ -1,73 +1,22 @@
--- Odd counts (document 01, "Odd count"): "one of two, and not both", and that round a closed walk a test that tells the ends of an edge apart
+-- Odd counts (document 01, "Odd count"): round a closed walk a test that tells the ends of an edge apart
 -- is passed by an even number of edges. Assumes nothing.
 use Prim.Native.Nat.{ℕ, suc, _%_}
 use native.Mathlib.Omega.{arith}
 use mathlib.Core.Path.{_≡_, refl, ap, ap₂, sym, _∙_}
 use mathlib.Core.Logic.{_≢_}
-use mathlib.Core.Bool.{Bool, true, false, cond, not, Bool·not-not, Bool·beq}
+use mathlib.Core.Bool.{Bool, true, false, cond, not}
 use mathlib.Core.List.{List, [], _∷_}
 use lib.Dec.{eqb}
 use borrow.Author.Tests.{eqb-true, eqb-false, eq-eqb, ne-eqb}
+use Rattle.facts.specs.Tests.{differ, differ-self, exchange, chain}
+use Rattle.facts.specs.Lists.{Each}
 use Rattle.ground.specs.declared.Point.{Point}
 use Rattle.boundary.specs.Boundary.{Edge, joined, noLength, withLength, edgesOf, crossesEast, countEast, pointInside}
 use Rattle.boundary.specs.Walk.{total, one-point}
 
--- One of two, and not both
-abbrev pub differ : Bool → Bool → Bool
-differ true b = not b
-differ false b = b
-
 -- An odd number of a list's edges pass a test
 abbrev pub oddly : (Edge → Bool) → List Edge → Bool
 oddly f es = total differ false f es
-
--- Each element of a list is such
-abbrev pub Each : {A : Type 0} → (A → Type 0) → List A → Type 0
-Each P [] = Unit {0}
-Each P (x ∷ xs) = P x × Each P xs
-
--- The laws of "one of two"
-pub differ-self : (a : Bool) → differ a a ≡ false
-differ-self true = refl
-differ-self false = refl
-
-pub differ-comm : (a b : Bool) → differ a b ≡ differ b a
-differ-comm true true = refl
-differ-comm true false = refl
-differ-comm false true = refl
-differ-comm false false = refl
-
-pub differ-none : (a b : Bool) → differ a b ≡ false → a ≡ b
-differ-none true b e = ap not (sym e) ∙ Bool·not-not b
-differ-none false b e = sym e
-
-not-differ : (a b : Bool) → not (differ a b) ≡ differ (not a) b
-not-differ true b = Bool·not-not b
-not-differ false b = refl
-
-differ-left : (a b c : Bool) → differ a (differ b c) ≡ differ b (differ a c)
-differ-left true true c = refl
-differ-left true false c = refl
-differ-left false true c = refl
-differ-left false false c = refl
-
-pub exchange : (a b c d : Bool) → differ (differ a b) (differ c d) ≡ differ (differ a c) (differ b d)
-exchange true b c d = sym (not-differ b (differ c d)) ∙ ap not (differ-left b c d) ∙ not-differ c (differ b d)
-exchange false b c d = differ-left b c d
-
-chain : (a b c : Bool) → differ (differ a b) (differ b c) ≡ differ a c
-chain a b c = ap (differ (differ a b)) (differ-comm b c) ∙ exchange a b c b ∙ ap (differ (differ a c)) (differ-self b) ∙ nothing (differ a c)
-  where
-    nothing : (a : Bool) → differ a false ≡ a
-    nothing true = refl
-    nothing false = refl
-
--- Two tests that are not equal differ
-pub unlike : (a b : Bool) → not (Bool·beq a b) ≡ differ a b
-unlike true true = refl
-unlike true false = refl
-unlike false true = refl
-unlike false false = refl
 
 -- A point is inside when an odd number of edges cross east of it
 pub inside-odd : (p : Point) (es : List Edge) → pointInside p es ≡ oddly (crossesEast p) es

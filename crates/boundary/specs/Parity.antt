@@ -12,9 +12,11 @@ use Rattle.ground.specs.declared.Point.{Point}
 use Rattle.ground.specs.declared.Rectangle.{Rectangle}
 use Rattle.ground.specs.Levels.{lon}
 use Rattle.boundary.specs.Boundary.{Edge, edgesOf, leftSum, rightSum, left, misses, crossesEast, pointInside, unmet}
-use Rattle.boundary.specs.Products.{product-le, product-lt, either-way}
-use Rattle.boundary.specs.Missing.{Leftward, LeftOf, at, Missed, west, east, south, north, onLeft, onRight, both, missed}
-use Rattle.boundary.specs.Odd.{differ, oddly, Each, differ-comm, differ-none, exchange, inside-odd, odd-differ, even-around}
+use Rattle.facts.specs.Numbers.{product-le, product-lt, either-way}
+use Rattle.boundary.specs.Missing.{Leftward, LeftOf, at, Missed, west, east, south, north, onLeft, onRight, missed}
+use Rattle.facts.specs.Tests.{both, differ, differ-comm, differ-none, exchange}
+use Rattle.boundary.specs.Odd.{oddly, inside-odd, odd-differ, even-around}
+use Rattle.facts.specs.Lists.{Each}
 
 -- A point of a rectangle, its east and north sides left out
 pub record Lies (r : Rectangle) (p : Point) : Type 0 where

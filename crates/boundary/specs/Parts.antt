@@ -9,12 +9,13 @@ use borrow.Author.Tests.{eqb-false}
 use Rattle.ground.specs.declared.Point.{Point}
 use Rattle.ground.specs.declared.Rectangle.{Rectangle}
 use Rattle.boundary.specs.Boundary.{leftSum, rightSum, misses}
-use Rattle.boundary.specs.Products.{product-le, either-way}
+use Rattle.facts.specs.Numbers.{product-le, either-way}
 use Rattle.boundary.specs.Boundary.{edge}
 use Rattle.boundary.specs.Walk.{one-point}
-use Rattle.boundary.specs.Missing.{Ordered, Holds, Leftward, Missed, onLeft, onRight, both, missed, misses-so}
+use Rattle.boundary.specs.Missing.{Ordered, Holds, Leftward, Missed, onLeft, onRight, missed, misses-so}
+use Rattle.facts.specs.Tests.{both, same-truth}
 use Rattle.boundary.specs.Parity.{Room}
-use Rattle.boundary.specs.Insert.{OnEdge, on-other-way, same-truth, sign-other-way, sign-back, sign-le, Apart, same-sign}
+use Rattle.boundary.specs.Insert.{OnEdge, on-other-way, sign-other-way, sign-back, sign-le, Apart, same-sign}
 
 -- Both ends are beyond a side
 data Beyond (a b : Point) (r : Rectangle) : Type 0 where

@@ -7,7 +7,7 @@ use lib.Dec.{eqb}
 use borrow.Author.Tests.{eqb-true}
 use Rattle.ground.specs.declared.Point.{Point}
 use Rattle.boundary.specs.Boundary.{edge, Edge, joined, noLength, withLength, edgesOf}
-use Rattle.boundary.specs.Missing.{both}
+use Rattle.facts.specs.Tests.{both}
 
 -- The corner after the first, which is the first itself where it is alone
 abbrev pub next : Point → List Point → Point

@@ -6,7 +6,7 @@ ghost use lib.Dec.{leb};
 ghost use Rattle.boundary.specs.Boundary.{edge, left as Boundary·left, beyond as Boundary·beyond, allLeft, misses as Boundary·misses, crossesEast};
 ghost use Rattle.boundary.specs.Extreme.{extremeLat, extremeLon};
 ghost use Rattle.boundary.specs.Missing.{Ordered};
-ghost use Rattle.boundary.specs.Odd.{differ};
+ghost use Rattle.facts.specs.Tests.{differ};
 ghost use Rattle.boundary.specs.Parity.{low, between as Parity·between};
 ghost use Rattle.boundary.specs.Keeping.{turns as Keeping·turns};
 use crate::left;

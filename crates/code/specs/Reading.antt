@@ -10,7 +10,8 @@ use lib.ListN.{length, take, drop, length-take, length-drop}
 use lib.Seq.{take-all}
 use borrow.Author.Tests.{ltb-false, eq-eqb, le-ltb, eqb-true, not-false}
 use Rattle.replies.specs.Replies.{Said, accepted, run}
-use Rattle.replies.specs.Tests.{neither, passed}
+use Rattle.replies.specs.RepliesLaws.{passed}
+use Rattle.facts.specs.Tests.{neither}
 use Rattle.ground.specs.Levels.{sizeOf}
 use Rattle.ground.specs.Sizes.{size-most}
 use Rattle.letters.specs.Alphabet.{firstOther}

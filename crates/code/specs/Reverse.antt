@@ -9,7 +9,7 @@ use lib.ListN.{length, getD, take, drop, take-append-drop}
 use lib.Seq.{take-at, drop-cons}
 use borrow.Author.Tests.{ne-eqb, le-ltb, ltb-false, eqb-false}
 use Rattle.replies.specs.Replies.{accepted, Outcome, outcome}
-use Rattle.replies.specs.Tests.{neither, none-of}
+use Rattle.facts.specs.Tests.{neither, none-of}
 use Rattle.ground.specs.Levels.{degree, minute, second}
 use Rattle.letters.specs.Alphabet.{valueIn, letterIn, found-back}
 use Rattle.letters.specs.Digits.{Digits, more, digits, digits-are, digits-append}

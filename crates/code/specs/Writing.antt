@@ -9,7 +9,8 @@ use lib.ListN.{length, take, drop, length-drop}
 use lib.Seq.{length-take-le, take-at, drop-at, drop-drop}
 use borrow.Author.Tests.{ltb-false, leb-false, eqb-true, not-false, eq-eqb, le-ltb, lt-leb}
 use Rattle.replies.specs.Replies.{Said, accepted}
-use Rattle.replies.specs.Tests.{neither, none-of, passed}
+use Rattle.replies.specs.RepliesLaws.{passed}
+use Rattle.facts.specs.Tests.{neither, none-of}
 use Rattle.ground.specs.Levels.{latEnd, lonEnd}
 use Rattle.letters.specs.Alphabet.{letterIn}
 use Rattle.letters.specs.Digits.{digits, valueFrom, none, more, digits-are, digits-value, value-digits}

@@ -7,7 +7,7 @@ use mathlib.Core.List.{List, [], _∷_, map}
 use lib.Dec.{T, eqb}
 use lib.ListN.{replicate}
 use Rattle.replies.specs.Replies.{Said}
-use Rattle.replies.specs.Texts.{bytes}
+use Rattle.facts.specs.Texts.{bytes}
 use Rattle.ground.specs.Levels.{sizeOf}
 use Rattle.ground.specs.Cells.{afresh, lowSide, highSide, sidesOf, centreOf, locationCell}
 use Rattle.letters.specs.Letters.{letters, spelledIn}

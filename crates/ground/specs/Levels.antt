@@ -1,5 +1,5 @@
 -- Angles and levels (document 01, "Angles and grid"). Assumes nothing.
-use Prim.Native.Nat.{ℕ, _+_, _-_, _*_}
+use Prim.Native.Nat.{ℕ, _+_, _-_, _*_, _≤_}
 use mathlib.Core.Bool.{cond}
 use mathlib.Core.List.{List, [], _∷_}
 use lib.Dec.{ltb}
@@ -35,6 +35,17 @@ lonEnd = 180 * degree
 abbrev pub distance : ℕ → ℕ → ℕ
 distance a b = (a - b) + (b - a)
 
+-- Levels 9 to 27
+abbrev pub coarsestLevel : ℕ
+coarsestLevel = 9
+
+abbrev pub finestLevel : ℕ
+finestLevel = 27
+
+pub record IsLevel (level : ℕ) : Type 0 where
+  pub coarsest : coarsestLevel ≤ level
+  pub finest : level ≤ finestLevel
+
 -- Nominal cell sizes in u: level 9, levels 10 to 15, 16 to 21, 22 to 27
 abbrev pub sizes : List ℕ
 sizes =
@@ -43,6 +54,10 @@ sizes =
     ∷ 65536 ∷ 32768 ∷ 16384 ∷ 8192 ∷ 4096 ∷ 2048
     ∷ 1024 ∷ 512 ∷ 256 ∷ 128 ∷ 64 ∷ 32 ∷ []
 
+-- the smallest of them
+abbrev pub smallestSize : ℕ
+smallestSize = 32
+
 -- The nominal size of a level, 0 for what is no level from 9 to 27
 unfoldable pub sizeOf : ℕ → ℕ
-sizeOf level = cond (ltb level 9) 0 (getD sizes (level - 9) 0)
+sizeOf level = cond (ltb level coarsestLevel) 0 (getD sizes (level - coarsestLevel) 0)

@@ -22,7 +22,11 @@ fn afresh(level: u32) -> u32
     ensures { λ r. ⌜ r ≡ Cells·afresh level ⌝ }
     ensures { λ r. ⌜ (122880 ≤ r) × (r ≤ 7372800) ⌝ }
 {
-    if level <= 15 { 7372800 } else { 122880 }
+    if level <= 15 {
+        crate::DEGREE
+    } else {
+        crate::MINUTE
+    }
 }
 
 // The low side of the cell of a level that an angle lies in, for all numbers.

@@ -10,6 +10,25 @@ pub use cells::sides_found;
 ghost use mathlib.Core.Path.{_≡_};
 ghost use Rattle.ground.specs.Levels.{sizeOf, distance};
 
+// A degree in u.
+pub const DEGREE: u32 = 7372800;
+
+// A minute in u.
+pub const MINUTE: u32 = 122880;
+
+// The ends of the ranges, which are included: 90° and 180°.
+pub const LAT_END: u32 = 663552000;
+
+pub const LON_END: u32 = 1327104000;
+
+// The coarsest and the finest level.
+pub const COARSEST: u32 = 9;
+
+pub const FINEST: u32 = 27;
+
+// The smallest nominal size, that of the finest level.
+pub const SMALLEST: u32 = 32;
+
 // A latitude in u, north of the equator.
 pub struct Lat(pub u32);
 
@@ -71,11 +90,11 @@ const SIZES: [u32; 19] = [
 pub fn size(level: u32) -> u32
     ensures { λ r. ⌜ r ≡ sizeOf level ⌝ }
 {
-    if level < 9 {
+    if level < COARSEST {
         return 0;
     }
-    if 27 < level {
+    if FINEST < level {
         return 0;
     }
-    SIZES[(level - 9) as usize]
+    SIZES[(level - COARSEST) as usize]
 }

@@ -8,8 +8,8 @@ use lib.Dec.{T, eqb, eqb→eq, ltb}
 use lib.ListN.{length, getD}
 use lib.Arith.{lt-of-le-ne}
 use borrow.Author.Tests.{eq-eqb, eqb-true, lt-ltb, le-ltb}
-use Rattle.replies.specs.Places.{firstPlace, first-most}
-use Rattle.replies.specs.Tests.{both}
+use Rattle.facts.specs.Places.{firstPlace, first-most}
+use Rattle.facts.specs.Tests.{both-hold}
 
 -- The value of a byte: its place in the alphabet; the alphabet's length where it is no letter
 abbrev pub valueIn : List ℕ → ℕ → ℕ
@@ -51,10 +51,10 @@ pub found-back : (alphabet : List ℕ) → T (distinct alphabet) → (v : ℕ) �
 found-back [] t v h = omega arith
 found-back (x ∷ xs) t zero h = rw (eq-eqb x x refl)
 found-back (x ∷ xs) t (suc v) h =
-    at (eqb x (getD xs v 0)) refl (found-back xs (both (eqb (valueIn xs x) (length xs)) (distinct xs) t .1) v (omega arith))
+    at (eqb x (getD xs v 0)) refl (found-back xs (both-hold (eqb (valueIn xs x) (length xs)) (distinct xs) t .1) v (omega arith))
   where
     once : valueIn xs x ≡ length xs
-    once = eqb→eq (valueIn xs x) (length xs) (both (eqb (valueIn xs x) (length xs)) (distinct xs) t .0)
+    once = eqb→eq (valueIn xs x) (length xs) (both-hold (eqb (valueIn xs x) (length xs)) (distinct xs) t .0)
 
     at : (b : Bool) → eqb x (getD xs v 0) ≡ b → valueIn xs (getD xs v 0) ≡ v
         → cond b 0 (suc (valueIn xs (getD xs v 0))) ≡ suc v

@@ -6,7 +6,7 @@ use mathlib.Core.Path.{_≡_, refl, ap, ap₂, _∙_, sym, subst}
 use mathlib.Core.List.{List, [], _∷_, _++_, map, map-append, append-nil, append-assoc}
 use lib.ListN.{length, getD, take, drop, set, length-set}
 use lib.Seq.{take-suc, take-all, drop-length, drop-cons, getD-set-same, drop-set-lt}
-use Rattle.replies.specs.Texts.{bytes}
+use Rattle.facts.specs.Texts.{bytes}
 use Rattle.letters.specs.Alphabet.{valueIn, letterIn}
 use Rattle.letters.specs.Digits.{digits, valueOf, value-snoc}
 

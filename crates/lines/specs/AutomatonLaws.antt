@@ -12,7 +12,7 @@ use lib.ListN.{length, take, set, length-set, length-take, length-append}
 use lib.Seq.{set-out, take-suc-set, append-snoc, take-all, take-append-le}
 use lib.Dec.{ltb, eqb}
 use borrow.Author.Tests.{lt-ltb, le-ltb, eq-eqb, ne-eqb}
-use Rattle.replies.specs.Texts.{bytes}
+use Rattle.facts.specs.Texts.{bytes}
 use Rattle.lines.specs.Lines.{Form, unit, notOfThisForm, form, formSaid, Coding, Reply, refused, saying, spelling, decimal, longest, cut, longer, withoutEmptyLast, linesOf, lineSaid, replyLine, replies, outputOf}
 use Rattle.lines.specs.RoomLaws.{lt-or-le}
 use Rattle.lines.specs.Automaton.{Coming, first, grown, next, more, after, reply, ended, last, together, listed}

@@ -4,7 +4,7 @@
 use mathlib.Core.Path.{_≡_, refl}
 use mathlib.Core.Bool.{true, false}
 use mathlib.Core.List.{[], _∷_, map}
-use Rattle.replies.specs.Texts.{bytes}
+use Rattle.facts.specs.Texts.{bytes}
 use Rattle.lines.specs.Lines.{outputOf, replies, lineSaid, cut, valueAfter, isNumber, unit, notOfThisForm, form, linesOf, spelling, coded, refused, replyLine}
 
 -- numbers, and what is none

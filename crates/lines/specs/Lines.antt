@@ -6,7 +6,7 @@ use mathlib.Core.Bool.{Bool, true, false, cond, not, _&&_, _||_}
 use mathlib.Core.List.{List, [], _∷_, _++_, map}
 use lib.ListN.{length, getD}
 use lib.Dec.{leb, ltb, eqb}
-use Rattle.replies.specs.Texts.{bytes}
+use Rattle.facts.specs.Texts.{bytes}
 
 -- ---- lists and texts
 

@@ -12,7 +12,8 @@ use Rattle.ground.specs.Sides.{low-low, below-high, high-low}
 use Rattle.ground.specs.declared.Cell.{Cell}
 use Rattle.unit.specs.declared.Choice.{Choice}
 use Rattle.unit.specs.declared.Choice.the-variants.{At, Nowhere}
-use Rattle.unit.specs.Chosen.{sidesFrom, sidesOver, orElse, firstAmong, countUp}
+use Rattle.unit.specs.Chosen.{sidesFrom, sidesOver, orElse, firstAmong}
+use Rattle.facts.specs.Lists.{countUp}
 use Rattle.plain.specs.Asked.{Level}
 
 -- Below the end a side is followed by those from the next on

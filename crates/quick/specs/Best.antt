@@ -17,9 +17,10 @@ use Rattle.ground.specs.Cells.{lowSide, highSide, sidesOf, centreOf, IsCell}
 use Rattle.ground.specs.CellTest.{low-below-high}
 use Rattle.ground.specs.Halves.{split, low-finer}
 use Rattle.boundary.specs.Boundary.{edgesOf, pointInside, unmet, inside}
-use Rattle.boundary.specs.Missing.{Within, both}
+use Rattle.boundary.specs.Missing.{Within}
+use Rattle.facts.specs.Tests.{both}
 use Rattle.boundary.specs.Parity.{Room, same-inside}
-use Rattle.boundary.specs.Products.{either-way}
+use Rattle.facts.specs.Numbers.{either-way}
 use Rattle.boundary.specs.Inner.{centre-lies, lies-within}
 use Rattle.unit.specs.declared.Choice.{Choice}
 use Rattle.unit.specs.declared.Choice.the-variants.{At, Nowhere}

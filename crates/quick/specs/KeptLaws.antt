@@ -16,8 +16,9 @@ use Rattle.ground.specs.declared.Rectangle.{Rectangle}
 use Rattle.ground.specs.Levels.{lat, lon}
 use Rattle.boundary.specs.Boundary.{Edge, edge, edgesOf, misses, unmet}
 use Rattle.boundary.specs.Corners.{cornersOf, cornerAt}
-use Rattle.boundary.specs.Products.{either-way}
-use Rattle.boundary.specs.Odd.{differ, oddly, differ-comm, unlike}
+use Rattle.facts.specs.Numbers.{either-way}
+use Rattle.boundary.specs.Odd.{oddly}
+use Rattle.facts.specs.Tests.{differ, differ-comm, unlike}
 use Rattle.boundary.specs.Changes.{differ-sums}
 use Rattle.boundary.specs.Parity.{Lies}
 use Rattle.boundary.specs.Keeping.{Keeps, edgeAt, upFrom, turns, keeps-inner, keeps-drop, keeps-unmet, keeps-turned}

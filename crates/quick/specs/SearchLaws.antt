@@ -21,9 +21,10 @@ use Rattle.ground.specs.Sides.{low-most, low-low, high-low, side-end}
 use Rattle.ground.specs.Halves.{Span, narrowest, narrow-wide}
 use Rattle.boundary.specs.Boundary.{inside}
 use Rattle.boundary.specs.Corners.{cornersOf}
-use Rattle.boundary.specs.Missing.{Within, Ordered, either}
+use Rattle.boundary.specs.Missing.{Within, Ordered}
+use Rattle.facts.specs.Tests.{either, true-of, holds}
 use Rattle.boundary.specs.Keeping.{Keeps, keeps-places}
-use Rattle.boundary.specs.Products.{either-way}
+use Rattle.facts.specs.Numbers.{either-way}
 use Rattle.unit.specs.declared.Choice.{Choice}
 use Rattle.unit.specs.declared.Choice.the-variants.{At, Nowhere}
 use Rattle.unit.specs.Extents.{lats, lons, extremesOf}
@@ -281,14 +282,6 @@ module _ {corners : List Point} {r : Rectangle} (o : Over corners r) {finest top
         })
         (s .best)
 
--- What passes a test, the test says, and the other way round
-said-true : (b : Bool) → T b → b ≡ true
-said-true true t = refl
-said-true false t = absurd t
-
-said-holds : {b : Bool} → b ≡ true → T b
-said-holds e = subst T (sym e) tt
-
 module _ {corners : List Point} where
   -- No cell of the levels that are too wide is inside
   pub levels-begin : {r : Rectangle} → Over corners r → {level : ℕ} → (9 ≤ level) × (level ≤ 28) → UnfitBefore r level
@@ -303,7 +296,7 @@ module _ {corners : List Point} where
   -- Where none of a level up to 27 is, there is no chosen cell
   pub levels-end : {level : ℕ} → NoneInside corners level → InRange corners → 28 ≤ level → choose corners ≡ Nowhere
   levels-end s range past =
-      none-choose corners range λ d is t. s .none d is (said-true (inside corners d) t) (omega (arith, is .finest))
+      none-choose corners range λ d is t. s .none d is (true-of (inside corners d) t) (omega (arith, is .finest))
 
   module _ {level finest top : ℕ} (s : NoneInside corners level) (l : Levels finest top) (starts : top ≤ level) where
     -- An inside cell up to the finest level is wanted, as none is of a level before those that are searched
@@ -329,8 +322,8 @@ module _ {corners : List Point} where
         chosen-choose corners range
         (record {
           cell = b .0 .cell;
-          within = said-holds (b .0 .is);
-          first = λ d k t h. b .1 d (inside-wanted d k (said-true (inside corners d) t) (omega (arith, before-most d c h, b .0 .most))) h;
+          within = holds (b .0 .is);
+          first = λ d k t h. b .1 d (inside-wanted d k (true-of (inside corners d) t) (omega (arith, before-most d c h, b .0 .most))) h;
         })
 
     -- Else no cell of a level up to the finest is inside

@@ -1,6 +1,6 @@
 -- The page's own input and output (document 01, "The listing program"), by computation. Assumes nothing.
 use mathlib.Core.Path.{_≡_, refl}
-use Rattle.replies.specs.Texts.{bytes}
+use Rattle.facts.specs.Texts.{bytes}
 use Rattle.ground.specs.Levels.{sizeOf}
 use Rattle.ground.specs.Cells.{afresh, lowSide, highSide, sidesOf, centreOf, locationCell}
 use Rattle.boundary.specs.Boundary.{edgesOf, left, leftOrOn, misses, crossesEast, inside}

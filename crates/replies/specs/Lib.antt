@@ -1,4 +1,2 @@
 pub mod Replies
-pub mod Places
-pub mod Tests
-pub mod Texts
+pub mod RepliesLaws

@@ -10,8 +10,10 @@ use mathlib.Core.List.{List, [], _∷_, map}
 use lib.Dec.{T, ltb}
 use lib.ListN.{length}
 use borrow.Author.Tests.{ltb-true, ltb-false, le-ltb}
-use Rattle.replies.specs.Places.{firstPlace}
-use Rattle.replies.specs.Tests.{neither}
+use Rattle.facts.specs.Numbers.{Compared, less, same, more, compared}
+use Rattle.facts.specs.Lists.{Each, each-so, each-in, In, Rising, countUp, count-each, count-rising, count-all}
+use Rattle.facts.specs.Places.{firstPlace}
+use Rattle.facts.specs.Tests.{neither, true-of}
 use Rattle.ground.specs.declared.Point.{Point}
 use Rattle.ground.specs.declared.Rectangle.{Rectangle}
 use Rattle.ground.specs.declared.Cell.{Cell}
@@ -21,29 +23,12 @@ use Rattle.ground.specs.CellTest.{low-below-high}
 use Rattle.ground.specs.CellLaws.{sides-32}
 use Rattle.ground.specs.Sides.{low-most, low-low, below-high, high-low, none-between, side-end}
 use Rattle.boundary.specs.Boundary.{inside}
-use Rattle.boundary.specs.Products.{either-way}
-use Rattle.boundary.specs.Odd.{Each}
 use Rattle.unit.specs.declared.Choice.{Choice}
 use Rattle.unit.specs.declared.Choice.the-variants.{At, Nowhere}
 use Rattle.unit.specs.Extents.{greatestFrom, greatest, extremesOf}
-use Rattle.unit.specs.Chosen.{Before, Chosen, sidesFrom, sidesOver, orElse, firstAmong, countUp, tried, wests, souths, trySouth, tryWest, tryLevel, choose}
+use Rattle.unit.specs.Chosen.{Before, Chosen, sidesFrom, sidesOver, orElse, firstAmong, tried, wests, souths, trySouth, tryWest, tryLevel, choose}
 use Rattle.unit.specs.Unit.{aboveRange}
 use Rattle.unit.specs.InExtents.{in-extents}
-
--- Two numbers compared three ways
-data Compared (a b : ℕ) : Type 0 where
-  less : a < b → Compared a b
-  same : a ≡ b → Compared a b
-  more : b < a → Compared a b
-
--- One of the three always holds
-compared : (a b : ℕ) → Compared a b
-compared a b = at (either-way a b) (either-way b a)
-  where
-    at : (a ≤ b) ⊎ (b < a) → (b ≤ a) ⊎ (a < b) → Compared a b
-    at (inl h) (inl k) = same (omega arith)
-    at (inl h) (inr k) = less k
-    at (inr h) k = more h
 
 -- Of two cells one is before the other, or they are the same
 one-before : (c d : Cell) → (Before c d) ⊎ ((Before d c) ⊎ (c ≡ d))
@@ -68,27 +53,6 @@ one-chosen corners {c} {d} h k = at (one-before c d)
     at (inr (inl b)) = absurd (h .first d (k .cell) (k .within) b)
     at (inr (inr e)) = e
 
--- A number of a list
-abbrev pub In : ℕ → List ℕ → Type 0
-In a [] = ⊥
-In a (x ∷ xs) = (a ≡ x) ⊎ In a xs
-
--- A list in increasing order: each entry is below all later ones
-abbrev pub Rising : List ℕ → Type 0
-Rising [] = Unit {0}
-Rising (x ∷ xs) = Each (λ (y : ℕ). x < y) xs × Rising xs
-
--- What holds of each entry of a list holds of one
-each-in : (P : ℕ → Type 0) (xs : List ℕ) (a : ℕ) → Each P xs → In a xs → P a
-each-in P [] a t m = absurd m
-each-in P (x ∷ xs) a t (inl e) = subst P (sym e) (t .0)
-each-in P (x ∷ xs) a t (inr m) = each-in P xs a (t .1) m
-
--- What follows for each number follows for each entry
-each-so : (P Q : ℕ → Type 0) → ((x : ℕ) → P x → Q x) → (xs : List ℕ) → Each P xs → Each Q xs
-each-so P Q so [] t = tt
-each-so P Q so (x ∷ xs) t = (so x (t .0), each-so P Q so xs (t .1))
-
 -- A low side of a level between two ends, the first included
 pub record Side (level from to a : ℕ) : Type 0 where
   pub is : lowSide level a ≡ a
@@ -105,7 +69,7 @@ module _ (level : ℕ) (coarsest : 9 ≤ level) (finest : level ≤ 27) where
           → Each (Side level a end) (elim t [ true ↦ a ∷ sidesFrom n level (highSide level a) end | false ↦ [] ])
       at true e later = (
         record { is = is; least = omega arith; below = ltb-true a end e },
-        each-so (Side level (highSide level a) end) (Side level a end)
+        each-so
             (λ x h. record { is = h .is; least = omega (arith, sides-32 level coarsest is finest .room, h .least); below = h .below })
             (sidesFrom n level (highSide level a) end) later,
       )
@@ -122,7 +86,7 @@ module _ (level : ℕ) (coarsest : 9 ≤ level) (finest : level ≤ 27) where
           → Rising (sidesFrom n level (highSide level a) end)
           → Rising (elim t [ true ↦ a ∷ sidesFrom n level (highSide level a) end | false ↦ [] ])
       at true later rising = (
-        each-so (Side level (highSide level a) end) (λ (y : ℕ). a < y)
+        each-so
             (λ x h. omega (arith, sides-32 level coarsest is finest .room, h .least))
             (sidesFrom n level (highSide level a) end) later,
         rising,
@@ -225,42 +189,11 @@ first-found try (x ∷ xs) {c} r e = at (try x) refl e (first-found try xs (r .1
         lesser f y (inl e) h = ap try e ∙ here
         lesser f y (inr m) h = f .lesser y m h
 
--- Counting up lists the numbers from one on, so many
-count-each : (n from : ℕ) → Each (λ (a : ℕ). (from ≤ a) × (a < from + n)) (countUp n from)
-count-each zero from = tt
-count-each (suc n) from = (
-  (omega arith, omega arith),
-  each-so (λ a. (suc from ≤ a) × (a < suc from + n)) (λ a. (from ≤ a) × (a < from + suc n)) (λ a h. (omega arith, omega arith))
-      (countUp n (suc from)) (count-each n (suc from)),
-)
-
--- in increasing order
-count-rising : (n from : ℕ) → Rising (countUp n from)
-count-rising zero from = tt
-count-rising (suc n) from = (
-  each-so (λ a. (suc from ≤ a) × (a < suc from + n)) (λ a. from < a) (λ a h. h .0) (countUp n (suc from)) (count-each n (suc from)),
-  count-rising n (suc from),
-)
-
--- and all of them
-count-all : (n from a : ℕ) → from ≤ a → a < from + n → In a (countUp n from)
-count-all zero from a h k = let none : ⊥ = omega arith in absurd none
-count-all (suc n) from a h k = at (eq-or-lt-of-le h) (λ l. count-all n (suc from) a l (omega arith))
-  where
-    at : (from ≡ a) ⊎ (from < a) → (from < a → In a (countUp n (suc from))) → In a (from ∷ countUp n (suc from))
-    at (inl e) later = inl (sym e)
-    at (inr l) later = inr (later l)
-
 -- The levels that are tried are 9 to 27
 levels-are : (level : ℕ) → In level (countUp 19 9) → (9 ≤ level) × (level ≤ 27)
 levels-are level m =
     let h = each-in (λ a. (9 ≤ a) × (a < 28)) (countUp 19 9) level (count-each 19 9) m in
     (h .0, omega arith)
-
--- A test that holds says true
-true-of : (b : Bool) → T b → b ≡ true
-true-of true t = refl
-true-of false t = absurd t
 
 -- Where trying a cell gives one, it is that cell and it is inside
 tried-at : (corners : List Point) (c : Cell) {d : Cell} → tried corners c ≡ At d → T (inside corners c) × (c ≡ d)

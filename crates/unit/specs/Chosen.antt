@@ -5,6 +5,7 @@ use mathlib.Core.Logic.{_⊎_}
 use mathlib.Core.Bool.{true, false, cond}
 use mathlib.Core.List.{List, [], _∷_}
 use lib.Dec.{T, ltb}
+use Rattle.facts.specs.Lists.{countUp}
 use Rattle.ground.specs.declared.Point.{Point}
 use Rattle.ground.specs.declared.Cell.{Cell}
 use Rattle.ground.specs.Levels.{lat, lon}
@@ -46,11 +47,6 @@ orElse Nowhere other = other tt
 abbrev pub firstAmong : (ℕ → Choice) → List ℕ → Choice
 firstAmong try [] = Nowhere
 firstAmong try (x ∷ xs) = orElse (try x) (λ _. firstAmong try xs)
-
--- so many numbers from one on
-abbrev pub countUp : ℕ → ℕ → List ℕ
-countUp zero from = []
-countUp (suc n) from = from ∷ countUp n (suc from)
 
 -- A cell if it is inside
 abbrev pub tried : List Point → Cell → Choice

@@ -10,7 +10,8 @@ use lib.Dec.{T, eqb, ltb}
 use lib.ListN.{length, getD, take}
 use borrow.Author.Tests.{ltb-false, eqb-true, not-false}
 use Rattle.replies.specs.Replies.{Said, accepted, Check, Outcome, outcome}
-use Rattle.replies.specs.Tests.{neither, Passed, passed}
+use Rattle.replies.specs.RepliesLaws.{Passed, passed}
+use Rattle.facts.specs.Tests.{neither}
 use Rattle.ground.specs.declared.Point.{Point}
 use Rattle.ground.specs.declared.Rectangle.{Rectangle}
 use Rattle.ground.specs.declared.Cell.{Cell}
@@ -24,7 +25,7 @@ use Rattle.code.specs.Reverse.{reading-written}
 use Rattle.boundary.specs.Corners.{cornersOf}
 use Rattle.boundary.specs.Boundary.{inside}
 use Rattle.boundary.specs.Missing.{Holds}
-use Rattle.boundary.specs.Odd.{Each}
+use Rattle.facts.specs.Lists.{Each}
 use Rattle.unit.specs.declared.Kind.{Kind}
 use Rattle.unit.specs.declared.Kind.the-variants.{Building, Other}
 use Rattle.unit.specs.declared.Choice.{Choice}

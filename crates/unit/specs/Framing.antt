@@ -9,7 +9,8 @@ use lib.Dec.{eqb}
 use lib.ListN.{length, take, drop, length-drop, length-append}
 use borrow.Author.Tests.{ne-eqb, le-ltb}
 use Rattle.replies.specs.Replies.{Said, refused, Check, check, run, Outcome, outcome}
-use Rattle.replies.specs.Tests.{none-of, Passed, passed}
+use Rattle.replies.specs.RepliesLaws.{Passed, passed}
+use Rattle.facts.specs.Tests.{none-of}
 use Rattle.ground.specs.declared.Point.{Point}
 use Rattle.ground.specs.declared.Rectangle.{Rectangle}
 use Rattle.ground.specs.CellTest.{is-cell}

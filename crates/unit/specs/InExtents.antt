@@ -14,9 +14,9 @@ use Rattle.ground.specs.Cells.{sidesOf, IsCell, locationCell, cornerOf}
 use Rattle.ground.specs.CellLaws.{Whole, sides-32, Placed, located}
 use Rattle.code.specs.declared.Fields.{Fields}
 use Rattle.boundary.specs.Boundary.{edgesOf, pointInside, inside}
-use Rattle.boundary.specs.Products.{either-way}
+use Rattle.facts.specs.Numbers.{not-above}
 use Rattle.boundary.specs.Missing.{Within}
-use Rattle.boundary.specs.Odd.{Each}
+use Rattle.facts.specs.Lists.{Each}
 use Rattle.boundary.specs.Parity.{Lies}
 use Rattle.boundary.specs.Inner.{inside-point}
 use Rattle.boundary.specs.Apart.{west-apart, east-apart, south-apart, north-apart}
@@ -56,14 +56,6 @@ below-each f corners {a} h =
 above-each : (f : Point → ℕ) (corners : List Point) {a : ℕ} → greatest (map f corners) ≤ a → Each (λ (v : Point). f v ≤ a) corners
 above-each f corners {a} h =
     each-corner f (λ y. y ≤ greatest (map f corners)) (λ y. y ≤ a) (λ y k. omega arith) corners (greatest-each (map f corners))
-
--- What is not above is at most
-not-above : {a b : ℕ} → (b < a → ⊥) → a ≤ b
-not-above {a} {b} h = at (either-way a b)
-  where
-    at : (a ≤ b) ⊎ (b < a) → a ≤ b
-    at (inl k) = k
-    at (inr k) = absurd (h k)
 
 module _ (corners : List Point) (c : Cell) (is : IsCell c) (t : inside corners c ≡ true) where
   -- The cell has room

@@ -9,7 +9,7 @@ use lib.Dec.{T, eqb, ltb, leb·suc-suc}
 use lib.ListN.{length, drop}
 use borrow.Author.Tests.{ltb-true, ltb-false, lt-ltb, le-ltb}
 use Rattle.replies.specs.Replies.{Check, check, check-at, run}
-use Rattle.replies.specs.Places.{firstPlace}
+use Rattle.facts.specs.Places.{firstPlace}
 use Rattle.ground.specs.declared.Point.{Point}
 use Rattle.ground.specs.declared.Rectangle.{Rectangle}
 use Rattle.ground.specs.declared.Cell.{Cell}
@@ -25,7 +25,8 @@ use Rattle.unit.specs.declared.Choice.{Choice}
 use Rattle.unit.specs.declared.Choice.the-variants.{At, Nowhere}
 use Rattle.boundary.specs.Corners.{cornersOf}
 use Rattle.unit.specs.Extents.{leastFrom, greatestFrom, least, greatest, extremesOf, latExtent, lonExtent}
-use Rattle.unit.specs.Chosen.{Chosen, sidesOver, orElse, firstAmong, countUp, tried, choose}
+use Rattle.unit.specs.Chosen.{Chosen, sidesOver, orElse, firstAmong, tried, choose}
+use Rattle.facts.specs.Lists.{countUp}
 use Rattle.unit.specs.Unit.{aboveRange, badNumber, noCell, spanAbove, codeAt, cornerChecks, codeChecks, coding}
 
 -- The least or the greatest of a number and the angles of some corners, by an operation and in a direction

@@ -9,7 +9,7 @@ use lib.Dec.{ltb}
 use borrow.Author.Tests.{ltb-true, ltb-false}
 use Rattle.ground.specs.Levels.{degree, sizeOf}
 use Rattle.ground.specs.Sizes.{size-least}
-use Rattle.boundary.specs.Products.{either-way}
+use Rattle.facts.specs.Numbers.{either-way}
 use Rattle.unit.specs.Unit.{scaleFrom, scaleOf}
 
 -- A scale from levels 9 to 9 + n is one of them

@@ -1,7 +1,7 @@
 // The extents of a unit, and its first corner above the range, over the caller's numbers.
 ghost use mathlib.Core.Path.{_≡_};
 ghost use Prim.Native.Nat.{_-_, min, max};
-ghost use Rattle.replies.specs.Places.{firstPlace};
+ghost use Rattle.facts.specs.Places.{firstPlace};
 ghost use Rattle.boundary.specs.Corners.{cornersOf};
 ghost use Rattle.unit.specs.Extents.{extremesOf, latExtent, lonExtent};
 ghost use Rattle.unit.specs.Unit.{aboveRange};

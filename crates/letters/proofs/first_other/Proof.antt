@@ -4,7 +4,7 @@ use mathlib.Core.Bool.{not}
 use mathlib.Core.Path.{sym, _∙_}
 use borrow.Author.Needs.{needs}
 use lib.ListN.{length, getD}
-use Rattle.replies.specs.Places.{NoneBefore, begin, again, found, finish}
+use Rattle.facts.specs.Places.{NoneBefore, begin, again, found, finish}
 use Rattle.letters.specs.Alphabet.{isLetter, no-letter, a-letter}
 use Rattle.letters.specs.Letters.{letters}
 use Rattle.letters.proofs.first_other.Statement.{statement}

@@ -4,7 +4,7 @@ use borrow.Author.Needs.{needs}
 use borrow.Author.Tests.{eq-eqb, ne-eqb}
 use lib.Dec.{eqb}
 use lib.ListN.{length}
-use Rattle.replies.specs.Places.{NoneBefore, begin, again, found, finish}
+use Rattle.facts.specs.Places.{NoneBefore, begin, again, found, finish}
 use Rattle.letters.proofs.value_in.Statement.{statement}
 use Rattle.letters.proofs.value_in.Tie as tie
 

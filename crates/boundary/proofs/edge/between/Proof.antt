@@ -1,7 +1,7 @@
 -- `boundary::edge::between` meets its contract: the latitudes decide where the corner is at or beyond the east side. Assumes nothing.
 use native.Mathlib.Omega.{arith}
 use borrow.Author.Tests.{le-leb, lt-leb}
-use Rattle.boundary.specs.Odd.{unlike}
+use Rattle.facts.specs.Tests.{unlike}
 use Rattle.boundary.specs.Parity.{low}
 use Rattle.boundary.proofs.edge.between.Statement.{statement}
 use Rattle.boundary.proofs.edge.between.Tie as tie

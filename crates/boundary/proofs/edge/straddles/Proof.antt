@@ -1,5 +1,5 @@
 -- `boundary::edge::straddles` meets its contract: two tests that are not equal differ. Assumes nothing.
-use Rattle.boundary.specs.Odd.{unlike}
+use Rattle.facts.specs.Tests.{unlike}
 use Rattle.boundary.specs.Parity.{low}
 use Rattle.boundary.proofs.edge.straddles.Statement.{statement}
 use Rattle.boundary.proofs.edge.straddles.Tie as tie

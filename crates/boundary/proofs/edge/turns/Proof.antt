@@ -1,7 +1,7 @@
 -- `boundary::edge::turns` meets its contract: the two crossings and the two ends, each counted as odd or even. Assumes nothing.
 use mathlib.Core.Path.{_≡_, ap₂, _∙_}
 use mathlib.Core.Bool.{Bool, not, Bool·beq}
-use Rattle.boundary.specs.Odd.{differ, unlike}
+use Rattle.facts.specs.Tests.{differ, unlike}
 use Rattle.boundary.specs.Keeping.{turns}
 use borrow.Author.Needs.{needs}
 use Rattle.boundary.proofs.edge.turns.Statement.{statement}

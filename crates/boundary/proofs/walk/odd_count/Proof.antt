@@ -8,7 +8,7 @@ use lib.ListN.{length}
 use Rattle.ground.specs.declared.Point.{Point}
 use Rattle.boundary.specs.Boundary.{edgesOf, crossesEast, pointInside}
 use Rattle.boundary.specs.Corners.{cornersOf}
-use Rattle.boundary.specs.Odd.{differ, unlike}
+use Rattle.facts.specs.Tests.{differ, unlike}
 use Rattle.boundary.specs.Changes.{differ-sums}
 use Rattle.boundary.specs.Loops.{Walked, walk-begin, walk-again, walk-as, walk-end, no-corners, odd-way}
 use Rattle.boundary.proofs.walk.odd_count.Statement.{statement}

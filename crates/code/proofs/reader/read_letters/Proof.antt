@@ -6,7 +6,8 @@ use mathlib.Core.List.{List}
 use lib.Dec.{eqb, ltb, lit<}
 use lib.ListN.{drop}
 use borrow.Author.Tests.{eq-eqb, ne-eqb, ltb-false}
-use Rattle.replies.specs.Tests.{neither, none-of, either-left, either-right, row, skip, stop}
+use Rattle.replies.specs.RepliesLaws.{row, skip, stop}
+use Rattle.facts.specs.Tests.{neither, none-of, either-left, either-right}
 use Rattle.replies.specs.Replies.{Said, run}
 use Rattle.ground.specs.declared.Rectangle.{Rectangle}
 use Rattle.code.specs.declared.Fields.{Fields}
@@ -190,7 +191,7 @@ returns-5 : tie.Need-returns-5
 unfolding letterChecks
 returns-5 c =
     let t = text-of (number-at (lon-at4 (c .before .before))) in
-    sym (ap (λ (s : Said). readingOf s t) (left-3 (c .before .before .before .before) ∙ stop (letterChecks t) 3 (lit< tt) (either-right (past-59-lat (c .before .before .before) ∙ c .before .before .if4 .left) (past-59-lon (c .before) ∙ c .if5 .taken))))
+    sym (ap (λ (s : Said). readingOf s t) (left-3 (c .before .before .before .before) ∙ stop (letterChecks t) 3 (lit< tt) (either-right (past59 (latIn t)) (past-59-lon (c .before) ∙ c .if5 .taken))))
 
 fields-requires : tie.Need-fields-requires
 fields-requires c κs = (number-at (lon-at5 c) .before .before .before .pre, degrees (c .before .before .before .before))

@@ -7,7 +7,7 @@ use borrow.Author.Needs.{needs}
 use borrow.Author.Tests.{lt-ltb, le-ltb, eq-eqb, ne-eqb}
 use lib.Dec.{eqb, ltb}
 use lib.ListN.{length}
-use Rattle.replies.specs.Tests.{either-left, either-right, none-of}
+use Rattle.facts.specs.Tests.{either-left, either-right, none-of}
 use Rattle.code.specs.Code.{outside}
 use Rattle.unit.specs.Frame.{firstChecks}
 use Rattle.unit.proofs.checking.checks.Statement.{statement}
@@ -22,7 +22,7 @@ paired c = ne-eqb _ 1 (c .if2 .left)
 
 amiss : (c : tie.Joined3) → outside 3 1024 (length (c .before .before .before .before .args .numbers .now) / 2) ≡ true
 amiss c =
-    ⊎-elim (λ w. either-left _ (lt-ltb _ 3 (w .taken))) (λ w. either-right (le-ltb _ 3 (w .0 .left)) (w .1 .taken)) (c .if3 .came)
+    ⊎-elim (λ w. either-left _ (lt-ltb _ 3 (w .taken))) (λ w. either-right (ltb (length (c .before .before .before .before .args .numbers .now) / 2) 3) (w .1 .taken)) (c .if3 .came)
 
 fit : (c : tie.Else4) → outside 3 1024 (length (c .before .before .before .before .before .args .numbers .now) / 2) ≡ false
 fit c = none-of (le-ltb _ 3 (c .before .if3 .left)) (c .if4 .left)

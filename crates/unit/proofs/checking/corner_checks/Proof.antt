@@ -8,7 +8,7 @@ use borrow.Author.Needs.{needs}
 use borrow.Author.Tests.{lt-ltb, le-ltb}
 use lib.Dec.{ltb}
 use lib.ListN.{length}
-use Rattle.replies.specs.Places.{firstPlace}
+use Rattle.facts.specs.Places.{firstPlace}
 use Rattle.boundary.specs.Corners.{cornersOf, corners-length}
 use Rattle.ground.specs.declared.Rectangle.{Rectangle}
 use Rattle.unit.specs.Extents.{extremesOf, latExtent, lonExtent}

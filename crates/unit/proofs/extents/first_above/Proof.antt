@@ -7,7 +7,7 @@ use borrow.Author.Needs.{needs}
 use lib.ListN.{length, getD}
 use Rattle.ground.specs.declared.Point.{Point}
 use Rattle.ground.specs.Levels.{lat, lon}
-use Rattle.replies.specs.Places.{NoneBefore, begin, again, found, finish}
+use Rattle.facts.specs.Places.{NoneBefore, begin, again, found, finish}
 use Rattle.boundary.specs.Corners.{cornersOf, corners-length, corner-get}
 use Rattle.unit.specs.Unit.{aboveRange}
 use Rattle.unit.proofs.extents.first_above.Statement.{statement}

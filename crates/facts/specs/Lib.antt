@@ -1,0 +1,5 @@
+pub mod Tests
+pub mod Numbers
+pub mod Lists
+pub mod Places
+pub mod Texts

@@ -1,0 +1,58 @@
+-- Numbers compared, and products of differences: what `omega` is handed where it would have to choose or to multiply. Assumes nothing.
+use Prim.Native.Nat.{ℕ, suc, _+_, _*_, _-_, _≤_, _<_}
+use native.Mathlib.Omega.{arith}
+use mathlib.Core.Path.{_≡_, refl, subst}
+use mathlib.Core.Logic.{_⊎_, inl, inr}
+use mathlib.Core.Bool.{Bool, true, false}
+use lib.Dec.{leb}
+use borrow.Author.Tests.{leb-true, leb-false}
+
+-- One of two numbers is at most the other
+pub either-way : (a b : ℕ) → (a ≤ b) ⊎ (b < a)
+either-way a b = at (leb a b) refl
+  where
+    at : (t : Bool) → leb a b ≡ t → (a ≤ b) ⊎ (b < a)
+    at true e = inl (leb-true a b e)
+    at false e = inr (leb-false a b e)
+
+-- What is not above is at most
+pub not-above : {a b : ℕ} → (b < a → ⊥) → a ≤ b
+not-above {a} {b} h = at (either-way a b)
+  where
+    at : (a ≤ b) ⊎ (b < a) → a ≤ b
+    at (inl k) = k
+    at (inr k) = absurd (h k)
+
+-- Two numbers compared three ways
+pub data Compared (a b : ℕ) : Type 0 where
+  less : a < b → Compared a b
+  same : a ≡ b → Compared a b
+  more : b < a → Compared a b
+
+-- One of the three always holds
+pub compared : (a b : ℕ) → Compared a b
+compared a b = at (either-way a b) (either-way b a)
+  where
+    at : (a ≤ b) ⊎ (b < a) → (b ≤ a) ⊎ (a < b) → Compared a b
+    at (inl h) (inl k) = same (omega arith)
+    at (inl h) (inr k) = less k
+    at (inr h) k = more h
+
+-- A difference and what it was taken from
+rest-of : {a b : ℕ} → a ≤ b → a + (b - a) ≡ b
+rest-of h = omega arith
+
+-- (b - a) times (d - c) is not negative
+pub product-le : {a b c d : ℕ} → a ≤ b → c ≤ d → a * d + b * c ≤ a * c + b * d
+product-le {a} {b} {c} {d} h k =
+    subst (λ (x : ℕ). a * d + x * c ≤ a * c + x * d) (rest-of h)
+    (subst (λ (y : ℕ). a * y + (a + (b - a)) * c ≤ a * c + (a + (b - a)) * y) (rest-of k) (plain a (b - a) c (d - c)))
+  where
+    plain : (a m c n : ℕ) → a * (c + n) + (a + m) * c ≤ a * c + (a + m) * (c + n)
+    plain a m c n = omega arith
+
+-- (b - a) times (d - c) is positive
+pub product-lt : {a b c d : ℕ} → a < b → c < d → a * d + b * c < a * c + b * d
+product-lt {a} {b} {c} {d} h k =
+    let more : suc a * d + b * suc c ≤ suc a * suc c + b * d = product-le h k in
+    omega arith
