@@ -1,13 +1,16 @@
--- Cells (document 01, "Angles and grid" and "The cell inside"): their cuts, sides and centre, and the location cell. Each direction by
--- itself is an angle; a latitude and a longitude stay apart. Assumes nothing.
+-- Cells (document 01, "Angles and grid" and "The cell inside"): their cuts and sides, which cells there are, and the location cell. Each
+-- direction by itself is an angle; a latitude and a longitude stay apart. Assumes nothing.
 use Prim.Native.Nat.{ℕ, _+_, _-_, _*_, _/_, _%_, _≤_, min}
 use mathlib.Core.Path.{_≡_}
-use mathlib.Core.Bool.{cond}
+use mathlib.Core.Bool.{Bool, cond, _&&_}
 use lib.Dec.{leb, eqb}
 use Rattle.ground.specs.declared.Point.{Point}
 use Rattle.ground.specs.declared.Rectangle.{Rectangle}
 use Rattle.ground.specs.declared.Cell.{Cell}
-use Rattle.ground.specs.Levels.{lat, lon, degree, minute, latEnd, lonEnd, sizeOf}
+use Rattle.ground.specs.declared.cells.Sides.{Sides}
+use Rattle.ground.specs.declared.cells.Sides.the-variants.{Of, NoCell}
+use Rattle.ground.specs.Levels.{lat, lon, degree, minute, latEnd, lonEnd, coarsestLevel, finestLevel, IsLevel, smallestSize, sizeOf}
+use Rattle.ground.specs.Rectangles.{centreOf}
 
 -- Cells of levels 10 to 15 start afresh at each whole degree, cells of levels 16 and up at each whole minute
 unfoldable pub afresh : ℕ → ℕ
@@ -36,33 +39,36 @@ sidesOf c = record {
 
 -- The cells of levels 9 to 27 that lie within the range
 pub record IsCell (c : Cell) : Type 0 where
-  pub coarsest : 9 ≤ c .level
-  pub finest : c .level ≤ 27
+  pub level : IsLevel (c .level)
   pub west : lowSide (c .level) (c .west .0) ≡ c .west .0
   pub south : lowSide (c .level) (c .south .0) ≡ c .south .0
   pub east-end : sidesOf c .east .0 ≤ lonEnd
   pub north-end : sidesOf c .north .0 ≤ latEnd
 
--- The centre is halfway on the ground, cuts included
-abbrev pub halfway : ℕ → ℕ → ℕ
-halfway a b = (a + b) / 2
-
-unfoldable pub centreOf : Rectangle → Point
-centreOf r = record {
-  lat = lat (halfway (r .south .0) (r .north .0));
-  lon = lon (halfway (r .west .0) (r .east .0));
-}
-
 -- The location cell is the level 27 cell whose north-east corner is that centre; for a cell of level 27 it is that cell itself
 unfoldable pub locationCell : Cell → Cell
 locationCell c =
-    cond (eqb (c .level) 27) c
+    cond (eqb (c .level) finestLevel) c
     (record {
-      level = 27;
-      west = lon (centreOf (sidesOf c) .lon .0 - sizeOf 27);
-      south = lat (centreOf (sidesOf c) .lat .0 - sizeOf 27);
+      level = finestLevel;
+      west = lon (centreOf (sidesOf c) .lon .0 - smallestSize);
+      south = lat (centreOf (sidesOf c) .lat .0 - smallestSize);
     })
 
 -- The south-west corner of a cell
 abbrev pub cornerOf : Cell → Point
 cornerOf c = record { lat = c .south; lon = c .west }
+
+-- The same as a computation: an angle is the low side of a cell of a level that ends at or before an end of the range
+unfoldable pub isSide : ℕ → ℕ → ℕ → Bool
+isSide level a end = eqb (lowSide level a) a && leb (highSide level a) end
+
+-- A cell of levels 9 to 27 within the range
+unfoldable pub isCell : Cell → Bool
+isCell c =
+    leb coarsestLevel (c .level) && leb (c .level) finestLevel && isSide (c .level) (c .west .0) lonEnd
+    && isSide (c .level) (c .south .0) latEnd
+
+-- Its sides, or none
+unfoldable pub sidesFound : Cell → Sides
+sidesFound c = cond (isCell c) (Of (sidesOf c)) NoCell

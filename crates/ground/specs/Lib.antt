@@ -1,7 +1,9 @@
 pub mod Levels
-pub mod Sizes
+pub mod LevelsLaws
+pub mod Rectangles
+pub mod RectanglesLaws
 pub mod Cells
-pub mod CellTest
-pub mod CellLaws
-pub mod Sides
+pub mod CellsLaws
+pub mod SidesLaws
 pub mod Halves
+pub mod HalvesLaws

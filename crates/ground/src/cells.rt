@@ -1,13 +1,17 @@
-// A cell's sides on the ground, cuts included, and the centre of a rectangle.
+// A cell's sides on the ground, cuts included.
 ghost use mathlib.Core.Path.{_≡_};
 ghost use Prim.Native.Nat.{_≤_};
-ghost use Rattle.ground.specs.Cells.{afresh as Cells·afresh, lowSide, highSide, centreOf, halfway as Cells·halfway};
-ghost use Rattle.ground.specs.CellTest.{isSide, sidesFound};
-ghost use Rattle.ground.specs.Halves.{narrowest as Halves·narrowest};
+ghost use Rattle.ground.specs.Levels.{degree, minute};
+ghost use Rattle.ground.specs.Cells.{afresh as Cells·afresh, lowSide, highSide, isSide, sidesFound};
+use crate::COARSEST;
 use crate::Cell;
+use crate::DEGREE;
+use crate::FINEST;
+use crate::LAT_END;
+use crate::LON_END;
 use crate::Lat;
 use crate::Lon;
-use crate::Point;
+use crate::MINUTE;
 use crate::Rectangle;
 use crate::size;
 
@@ -18,7 +22,7 @@ pub enum Sides {
 }
 
 // Where cells of a level start afresh: at each degree, or at each minute.
-fn afresh(level: u32) -> u32
+pub(crate) fn afresh(level: u32) -> u32
     ensures { λ r. ⌜ r ≡ Cells·afresh level ⌝ }
     ensures { λ r. ⌜ (122880 ≤ r) × (r ≤ 7372800) ⌝ }
 {
@@ -51,18 +55,6 @@ pub fn high_side(level: u32, a: u32) -> u64
     if full < cut { full } else { cut }
 }
 
-// The least width of a level's cells, cuts included; 0 for what is no level from 9 to 27.
-pub fn narrowest(level: u32) -> u32
-    ensures { λ r. ⌜ r ≡ Halves·narrowest level ⌝ }
-{
-    let part = size(level);
-    if part == 0 {
-        return 0;
-    }
-    let left = afresh(level) % part;
-    if left == 0 { part } else { left }
-}
-
 // Whether an angle is the low side of a cell that ends at or before an end of the range.
 fn is_side(level: u32, a: u32, end: u32) -> bool
     ensures { λ r. ⌜ r ≡ isSide level a end ⌝ }
@@ -77,16 +69,16 @@ pub fn sides_found(c: Cell) -> Sides
     let level = c.level;
     let west = c.west;
     let south = c.south;
-    if level < 9 {
+    if level < COARSEST {
         return Sides::NoCell;
     }
-    if 27 < level {
+    if FINEST < level {
         return Sides::NoCell;
     }
-    if !is_side(level, west.0, 1327104000) {
+    if !is_side(level, west.0, LON_END) {
         return Sides::NoCell;
     }
-    if !is_side(level, south.0, 663552000) {
+    if !is_side(level, south.0, LAT_END) {
         return Sides::NoCell;
     }
     Sides::Of(Rectangle {
@@ -95,25 +87,4 @@ pub fn sides_found(c: Cell) -> Sides
         south,
         north: Lat(high_side(level, south.0) as u32),
     })
-}
-
-// Halfway between two angles.
-fn halfway(a: u32, b: u32) -> u32
-    ensures { λ r. ⌜ r ≡ Cells·halfway a b ⌝ }
-{
-    ((a as u64 + b as u64) / 2) as u32
-}
-
-// The centre of a rectangle, for all numbers.
-pub fn centre(r: Rectangle) -> Point
-    ensures { λ p. ⌜ p ≡ centreOf r ⌝ }
-{
-    let west = r.west;
-    let east = r.east;
-    let south = r.south;
-    let north = r.north;
-    Point {
-        lat: Lat(halfway(south.0, north.0)),
-        lon: Lon(halfway(west.0, east.0)),
-    }
 }

@@ -1,12 +1,22 @@
 // The ground: angles in u (1/2048 arc second), points, rectangles, cells and their levels.
 mod cells;
+mod halves;
+mod rectangles;
 
 pub use cells::Sides;
-pub use cells::centre;
 pub use cells::high_side;
 pub use cells::low_side;
-pub use cells::narrowest;
 pub use cells::sides_found;
+pub use halves::lat_split;
+pub use halves::lon_split;
+pub use halves::narrowest;
+pub use rectangles::centre;
+pub use rectangles::east_of;
+pub use rectangles::north_of;
+pub use rectangles::south_of;
+pub use rectangles::south_west;
+pub use rectangles::west_of;
+pub use rectangles::widened;
 ghost use mathlib.Core.Path.{_≡_};
 ghost use Rattle.ground.specs.Levels.{sizeOf, distance};
 

@@ -1,8 +1,7 @@
 -- `ground::cells::is_side` meets its contract: the low side decides, then the high side. Assumes nothing.
 use mathlib.Core.Path.{sym, _∙_}
 use borrow.Author.Tests.{eq-eqb, ne-eqb}
-use Rattle.ground.specs.Cells.{lowSide}
-use Rattle.ground.specs.CellTest.{isSide}
+use Rattle.ground.specs.Cells.{lowSide, isSide}
 use borrow.Author.Needs.{needs}
 use Rattle.ground.proofs.cells.is_side.Statement.{statement}
 use Rattle.ground.proofs.cells.is_side.Tie as tie

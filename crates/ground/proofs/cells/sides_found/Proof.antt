@@ -4,8 +4,8 @@ use native.Mathlib.Omega.{arith}
 use mathlib.Core.Path.{sym, _∙_}
 use borrow.Author.Tests.{le-leb, lt-leb, not-true, not-false}
 use Rattle.ground.specs.Levels.{latEnd, lonEnd}
-use Rattle.ground.specs.Cells.{highSide, sidesOf}
-use Rattle.ground.specs.CellTest.{isCell, sidesFound, side-ends}
+use Rattle.ground.specs.Cells.{highSide, sidesOf, isCell, sidesFound}
+use Rattle.ground.specs.CellsLaws.{side-ends}
 use borrow.Author.Needs.{needs}
 use Rattle.ground.proofs.cells.sides_found.Statement.{statement}
 use Rattle.ground.proofs.cells.sides_found.Tie as tie

@@ -1,8 +1,8 @@
--- `ground::cells::centre` meets its contract: halfway in each direction. Assumes nothing.
-use Rattle.ground.specs.Cells.{centreOf}
+-- `ground::rectangles::centre` meets its contract: halfway in each direction. Assumes nothing.
+use Rattle.ground.specs.Rectangles.{centreOf}
 use borrow.Author.Needs.{needs}
-use Rattle.ground.proofs.cells.centre.Statement.{statement}
-use Rattle.ground.proofs.cells.centre.Tie as tie
+use Rattle.ground.proofs.rectangles.centre.Statement.{statement}
+use Rattle.ground.proofs.rectangles.centre.Tie as tie
 
 halfway-requires : tie.Need-halfway-requires
 halfway-requires c κs = search needs

@@ -1,4 +1,4 @@
--- `ground::cells::narrowest` meets its contract: what whole cells leave, or the size where they leave nothing. Assumes nothing.
+-- `ground::halves::narrowest` meets its contract: what whole cells leave, or the size where they leave nothing. Assumes nothing.
 use Prim.Native.Nat.{ℕ, _%_}
 use mathlib.Core.Path.{_≡_, ap₂, sym, _∙_}
 use mathlib.Core.Logic.{_≢_}
@@ -6,9 +6,10 @@ use borrow.Author.Needs.{needs}
 use borrow.Author.Tests.{eq-eqb}
 use Rattle.ground.specs.Levels.{sizeOf}
 use Rattle.ground.specs.Cells.{afresh}
-use Rattle.ground.specs.Halves.{narrowest, narrow-size, narrow-left}
-use Rattle.ground.proofs.cells.narrowest.Statement.{statement}
-use Rattle.ground.proofs.cells.narrowest.Tie as tie
+use Rattle.ground.specs.Halves.{narrowest}
+use Rattle.ground.specs.HalvesLaws.{narrow-size, narrow-cut}
+use Rattle.ground.proofs.halves.narrowest.Statement.{statement}
+use Rattle.ground.proofs.halves.narrowest.Tie as tie
 
 -- the size is one to divide by
 some : (c : tie.Else1) → sizeOf (c .before .before .args .level) ≢ 0
@@ -29,8 +30,8 @@ returns c = rw (eq-eqb (sizeOf (c .before .before .args .level)) 0 (sym (c .befo
 afresh-requires : tie.Need-afresh-requires
 afresh-requires c κs = search needs
 
-rem-left : tie.Need-rem-left
-rem-left c = search needs
+rem-cut : tie.Need-rem-cut
+rem-cut c = search needs
 
 returns-2 : tie.Need-returns-2
 returns-2 c =
@@ -41,8 +42,8 @@ returns-3 : tie.Need-returns-3
 returns-3 c =
     let sized = c .before .before .before in
     sym (rest (c .before))
-    ∙ sym (narrow-left (sized .before .args .level) (some (c .before .before)) (λ e. c .if2 .left (sym (rest (c .before)) ∙ e)))
+    ∙ sym (narrow-cut (sized .before .args .level) (some (c .before .before)) (λ e. c .if2 .left (sym (rest (c .before)) ∙ e)))
 
 pub narrowest-spec : {M : Type 1} → statement M
 narrowest-spec =
-    tie.close (tie.spec size-requires returns afresh-requires rem-left returns-2 returns-3)
+    tie.close (tie.spec size-requires returns afresh-requires rem-cut returns-2 returns-3)
