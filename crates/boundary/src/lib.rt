@@ -1,15 +1,11 @@
-// The boundary of a unit: sides of a line, meeting, odd count, inside.
-mod edge;
-mod side;
+// The boundary of a unit: its edges, listed by the one walk over the caller's corners, and what is asked
+// of a list of edges. An edge stands in a list as four numbers: latitude and longitude of its start, then
+// of its end.
+mod asked;
 mod walk;
 
-pub use edge::aside;
-pub use edge::beyond;
-pub use edge::crosses_east;
-pub use edge::misses;
-pub use edge::turns;
-pub use side::left;
-pub use walk::corner;
-pub use walk::inside;
-pub use walk::odd_count;
-pub use walk::unmet;
+pub use asked::inside;
+pub use asked::odd_count;
+pub use asked::unmet;
+pub use walk::list_edges;
+pub use walk::put_edge;

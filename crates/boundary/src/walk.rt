@@ -1,99 +1,99 @@
-// Along the edges of a boundary, over the caller's numbers as they come: latitude, longitude in turn,
-// the last corner joined to the first.
+// The walk along the edges of a boundary, from each corner to the next and from the last to the first:
+// they are listed in a lent room, edges of no length left out.
+ghost use Prim.Native.Nat.{_+_, _/_, _<_};
 ghost use mathlib.Core.Path.{_≡_};
-ghost use mathlib.Core.Bool.{_&&_};
-ghost use lib.ListN.{getD};
-ghost use Rattle.ground.specs.CellTest.{isCell};
-ghost use Rattle.boundary.specs.Boundary.{edgesOf, unmet as Boundary·unmet, pointInside, inside as Boundary·inside};
-ghost use Rattle.boundary.specs.Corners.{cornersOf, cornerAt};
-use crate::crosses_east;
-use crate::misses;
-use ground::Cell;
-use ground::Lat;
-use ground::Lon;
+ghost use mathlib.Core.Bool.{cond};
+ghost use lib.ListN.{length, set};
+ghost use Rattle.edge.specs.Edge.{edge, noLength};
+ghost use Rattle.boundary.specs.Listed.{withEdge, placeAfter, listedCount, listedEdges, listedPlaces};
+use corners::corner;
 use ground::Point;
-use ground::Rectangle;
-use ground::Sides;
 
-// A number of the list, and 0 past its end.
-fn number(numbers: &[u32], k: usize) -> u32
-    ensures { λ r. ⌜ r ≡ getD (now (numbers .entry)) k 0 ⌝ }
+// Puts an edge at a place of a room, and nothing where the room has no such place.
+pub fn put_edge(room: &mut [u32], place: usize, a: Point, b: Point)
+    ensures { λ _. ⌜ now (room .exit) ≡ withEdge (now (room .entry)) place (edge a b) ⌝ }
 {
-    if k < numbers.len() { numbers[k] } else { 0 }
-}
-
-// The corner at a place of the list; a coordinate that the list does not have is 0.
-pub fn corner(numbers: &[u32], i: usize) -> Point
-    ensures { λ p. ⌜ p ≡ cornerAt (now (numbers .entry)) i ⌝ }
-{
-    if i < numbers.len() / 2 {
-        return Point {
-            lat: Lat(numbers[2 * i]),
-            lon: Lon(numbers[2 * i + 1]),
-        };
-    }
-    if numbers.len() <= i {
-        return Point {
-            lat: Lat(0),
-            lon: Lon(0),
-        };
-    }
-    Point {
-        lat: Lat(number(numbers, 2 * i)),
-        lon: Lon(number(numbers, 2 * i + 1)),
+    let a_lat = a.lat;
+    let a_lon = a.lon;
+    let b_lat = b.lat;
+    let b_lon = b.lon;
+    if place < room.len() / 4 {
+        room[4 * place] = a_lat.0;
+        room[4 * place + 1] = a_lon.0;
+        room[4 * place + 2] = b_lat.0;
+        room[4 * place + 3] = b_lon.0;
     }
 }
 
-// Whether no edge of a boundary meets a rectangle.
-pub fn unmet(numbers: &[u32], r: Rectangle) -> bool
-    ensures { λ m. ⌜ m ≡ Boundary·unmet r (edgesOf (cornersOf (now (numbers .entry)))) ⌝ }
+// Whether two corners are one point.
+fn one_point(a: Point, b: Point) -> bool
+    ensures { λ r. ⌜ r ≡ noLength (edge a b) ⌝ }
+{
+    let a_lat = a.lat;
+    let a_lon = a.lon;
+    let b_lat = b.lat;
+    let b_lon = b.lon;
+    a_lat.0 == b_lat.0 && a_lon.0 == b_lon.0
+}
+
+// The place after a place of so many: after the last comes the first.
+fn place_after(count: usize, place: usize) -> usize
+    requires { ⌜ place < count ⌝ }
+    ensures { λ r. ⌜ r ≡ placeAfter count place ⌝ }
+{
+    let after = place + 1;
+    if after == count { 0 } else { after }
+}
+
+// Lists an edge and the place where it starts behind those that are listed, if it has a length.
+fn list_edge(
+    edges: &mut [u32],
+    places: &mut [usize],
+    listed: usize,
+    place: usize,
+    a: Point,
+    b: Point,
+) -> usize
+    requires { ⌜ listed < length (now places) ⌝ }
+    ensures { λ r. ⌜ r ≡ cond (noLength (edge a b)) listed (listed + 1) ⌝ }
+    ensures { λ _. ⌜ now (edges .exit) ≡ cond (noLength (edge a b)) (now (edges .entry)) (withEdge (now (edges .entry)) listed (edge a b)) ⌝ }
+    ensures { λ _. ⌜ now (places .exit) ≡ cond (noLength (edge a b)) (now (places .entry)) (set (now (places .entry)) listed place) ⌝ }
+{
+    if one_point(a, b) {
+        return listed;
+    }
+    put_edge(edges, listed, a, b);
+    places[listed] = place;
+    listed + 1
+}
+
+// Lists the edges of the boundary of the caller's numbers, edges of no length left out, with the places
+// of the corners where they start, and answers how many they are. Where one of the rooms has fewer places
+// than there are corners, it lists nothing and answers 0.
+pub fn list_edges(numbers: &[u32], edges: &mut [u32], places: &mut [usize]) -> usize
+    ensures { λ r. ⌜ r ≡ listedCount (now (numbers .entry)) (now (edges .entry)) (now (places .entry)) ⌝ }
+    ensures { λ _. ⌜ now (edges .exit) ≡ listedEdges (now (numbers .entry)) (now (edges .entry)) (now (places .entry)) ⌝ }
+    ensures { λ _. ⌜ now (places .exit) ≡ listedPlaces (now (numbers .entry)) (now (edges .entry)) (now (places .entry)) ⌝ }
 {
     let count = numbers.len() / 2;
-    if count == 0 {
-        return true;
+    if edges.len() / 4 < count {
+        return 0;
     }
-    let first = corner(numbers, 0);
-    let mut here = first;
-    let mut i = 1;
+    if places.len() < count {
+        return 0;
+    }
+    let mut listed = 0;
+    let mut i = 0;
     while i < count {
-        let next = corner(numbers, i);
-        if !misses(here, next, r) {
-            return false;
-        }
-        here = next;
+        listed = list_edge(
+            edges,
+            places,
+            listed,
+            i,
+            corner(numbers, i),
+            corner(numbers, place_after(count, i)),
+        );
         i += 1;
     }
-    misses(here, first, r)
-}
-
-// Whether a point has an odd count of edges that cross its latitude strictly east of it.
-pub fn odd_count(numbers: &[u32], p: Point) -> bool
-    ensures { λ m. ⌜ m ≡ pointInside p (edgesOf (cornersOf (now (numbers .entry)))) ⌝ }
-{
-    let count = numbers.len() / 2;
-    if count == 0 {
-        return false;
-    }
-    let first = corner(numbers, 0);
-    let mut here = first;
-    let mut odd = false;
-    let mut i = 1;
-    while i < count {
-        let next = corner(numbers, i);
-        odd = odd != crosses_east(p, here, next);
-        here = next;
-        i += 1;
-    }
-    odd != crosses_east(p, here, first)
-}
-
-// Whether a cell of levels 9 to 27 within the range is inside; false for what is no such cell.
-pub fn inside(numbers: &[u32], c: Cell) -> bool
-    ensures { λ m. ⌜ m ≡ (isCell c && Boundary·inside (cornersOf (now (numbers .entry))) c) ⌝ }
-{
-    let found = ground::sides_found(c);
-    match found {
-        Sides::Of(r) => unmet(numbers, r) && odd_count(numbers, ground::centre(r)),
-        Sides::NoCell => false,
-    }
+    listed
 }
