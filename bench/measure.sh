@@ -27,10 +27,11 @@ instructions() {
     fi
 }
 
-# one_run INPUT COMMAND..: its microseconds.
+# one_run INPUT COMMAND..: its microseconds, and `-` in place of an emulator's, which say nothing.
 one_run() {
     local input=$1 start=${EPOCHREALTIME/./}
     shift
+    if [ "$emulated" ]; then say -; return; fi
     run "$@" <"$input" >"$work/answers" || return
     say $((${EPOCHREALTIME/./} - start))
 }

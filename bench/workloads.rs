@@ -4,7 +4,7 @@
 
 mod plan;
 #[allow(dead_code)] // the judge uses more of it
-#[path = "../judge/random.rs"]
+#[path = "../judge/generators/random.rs"]
 mod random;
 mod shapes;
 mod simple;

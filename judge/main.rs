@@ -1,31 +1,16 @@
 //! The judge: a second program written from document 01 alone, against which
 //! the verified program is compared. This file reads the command line.
 
-mod asked;
-mod borderedges;
-mod borders;
-mod borderunits;
-mod boundary;
-mod broken;
-mod cases;
-mod changes;
-mod code;
-mod far;
-mod grid;
-mod lines;
-mod plain;
-mod questions;
-mod quick;
-mod random;
-mod requests;
-mod selftest;
-mod shapes;
-mod trials;
-mod unit;
-mod units;
+mod generators;
+mod program;
+mod tests;
 
 use std::io::{self, BufWriter, ErrorKind, Write};
 use std::process::ExitCode;
+
+use generators::{borderedges, borders, borderunits, changes, requests, units};
+use program::{lines, trials};
+use tests::{cases, selftest};
 
 const USAGE: &str = "usage: judge listing | trials | requests SEED COUNT [KINDS] | \
 borders [units | roads | edges] | agree SEED COUNT | units SEED COUNT | changes SEED COUNT | \

@@ -1,5 +1,5 @@
 """Answers the judge's requests (judge/README.md) by the library: a request a line on standard input,
-an answer a line on standard output, for judge/compare and library/try to hold against the judge's.
+an answer a line on standard output, for judge/gate/compare and library/try to hold against the judge's.
 It knows `write`, `read`, `plain` and `quick`, and answers `?` to every other line."""
 import re
 import sys

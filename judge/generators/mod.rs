@@ -1,0 +1,14 @@
+//! What both programs are asked: random units, lines, pairs of lines and
+//! requests from a seed, and the fixed lists at every border.
+
+mod asked;
+pub mod borderedges;
+pub mod borders;
+pub mod borderunits;
+mod broken;
+pub mod changes;
+mod far;
+pub mod random;
+pub mod requests;
+pub mod shapes;
+pub mod units;

@@ -1,0 +1,13 @@
+//! The second program: document 01's grid, boundary, two searches, code, units
+//! and listing, and the answers to requests. It uses nothing of the generators
+//! and the tests.
+
+pub mod boundary;
+pub mod code;
+pub mod grid;
+pub mod lines;
+pub mod plain;
+pub mod questions;
+pub mod quick;
+pub mod trials;
+pub mod unit;
