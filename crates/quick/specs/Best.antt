@@ -2,55 +2,40 @@
 -- 01, "What the work covers" and "The cell inside"), and the laws by which the answers for two parts make that for the whole. Assumes nothing.
 use Prim.Native.Nat.{ℕ, _+_, _-_, _≤_, _<_}
 use native.Mathlib.Omega.{arith}
-use mathlib.Core.Path.{_≡_, refl, sym, ap, _∙_}
+use mathlib.Core.Path.{_≡_, refl, sym, _∙_}
 use mathlib.Core.Logic.{_⊎_, inl, inr}
-use mathlib.Core.Bool.{Bool, true, false, cond, not, _&&_, false≢true}
+use mathlib.Core.Bool.{Bool, true, false, cond}
 use mathlib.Core.List.{List}
 use lib.Dec.{ltb, eqb}
 use borrow.Author.Tests.{ltb-true, ltb-false, eqb-true, eqb-false}
+use Rattle.facts.specs.Numbers.{either-way}
 use Rattle.ground.specs.declared.Lat.{Lat}
 use Rattle.ground.specs.declared.Lon.{Lon}
-use Rattle.ground.specs.declared.Point.{Point}
 use Rattle.ground.specs.declared.Rectangle.{Rectangle}
 use Rattle.ground.specs.declared.Cell.{Cell}
-use Rattle.ground.specs.Cells.{lowSide, highSide, sidesOf, centreOf, IsCell}
-use Rattle.ground.specs.CellTest.{low-below-high}
-use Rattle.ground.specs.Halves.{split, low-finer}
-use Rattle.boundary.specs.Boundary.{edgesOf, pointInside, unmet, inside}
-use Rattle.boundary.specs.Missing.{Within}
-use Rattle.facts.specs.Tests.{both}
-use Rattle.boundary.specs.Parity.{Room, same-inside}
-use Rattle.facts.specs.Numbers.{either-way}
-use Rattle.boundary.specs.Inner.{centre-lies, lies-within}
-use Rattle.unit.specs.declared.Choice.{Choice}
-use Rattle.unit.specs.declared.Choice.the-variants.{At, Nowhere}
-use Rattle.unit.specs.Chosen.{Before}
+use Rattle.ground.specs.Levels.{coarsestLevel}
+use Rattle.ground.specs.Rectangles.{Within, southOf, northOf, westOf, eastOf}
+use Rattle.ground.specs.Cells.{lowSide, highSide, sidesOf, IsCell}
+use Rattle.ground.specs.CellsLaws.{cell-wide}
+use Rattle.ground.specs.HalvesLaws.{split, low-finer}
+use Rattle.edge.specs.Edge.{Edge}
+use Rattle.boundary.specs.Boundary.{inside}
+use Rattle.chosen.specs.declared.Choice.{Choice}
+use Rattle.chosen.specs.declared.Choice.the-variants.{At, Nowhere}
+use Rattle.chosen.specs.Chosen.{Before}
 
 -- A wanted cell in a rectangle of ground: of a level from one to another, inside, and within the ground
-pub record Wanted (corners : List Point) (from finest : ℕ) (r : Rectangle) (c : Cell) : Type 0 where
+pub record Wanted (es : List Edge) (from finest : ℕ) (r : Rectangle) (c : Cell) : Type 0 where
   pub cell : IsCell c
   pub least : from ≤ c .level
   pub most : c .level ≤ finest
-  pub is : inside corners c ≡ true
+  pub is : inside es c ≡ true
   pub lies : Within (sidesOf c) r
 
 -- The first of the wanted cells; or none, where there is none
-abbrev pub Best : List Point → ℕ → ℕ → Rectangle → Choice → Type 0
-Best corners from finest r (At c) = Wanted corners from finest r c × ((d : Cell) → Wanted corners from finest r d → Before d c → ⊥)
-Best corners from finest r Nowhere = (d : Cell) → Wanted corners from finest r d → ⊥
-
--- The parts of a rectangle south and north of a latitude, west and east of a longitude
-abbrev pub southOf : Rectangle → Lat → Rectangle
-southOf r at = record { west = r .west; east = r .east; south = r .south; north = at }
-
-abbrev pub northOf : Rectangle → Lat → Rectangle
-northOf r at = record { west = r .west; east = r .east; south = at; north = r .north }
-
-abbrev pub westOf : Rectangle → Lon → Rectangle
-westOf r at = record { west = r .west; east = at; south = r .south; north = r .north }
-
-abbrev pub eastOf : Rectangle → Lon → Rectangle
-eastOf r at = record { west = at; east = r .east; south = r .south; north = r .north }
+abbrev pub Best : List Edge → ℕ → ℕ → Rectangle → Choice → Type 0
+Best es from finest r (At c) = Wanted es from finest r c × ((d : Cell) → Wanted es from finest r d → Before d c → ⊥)
+Best es from finest r Nowhere = (d : Cell) → Wanted es from finest r d → ⊥
 
 -- A cell is of a lower level number than another, or of the same and further west
 abbrev pub sooner : Cell → Cell → Bool
@@ -66,30 +51,6 @@ earlier (At c) (At d) = cond (sooner d c) (At d) (At c)
 abbrev pub levelOf : Choice → ℕ → ℕ
 levelOf (At c) none = c .level
 levelOf Nowhere none = none
-
--- The test for passing over: no edge meets the half, and its centre is not inside
-unfoldable pub passesOver : List Point → Rectangle → Bool
-passesOver corners r = unmet r (edgesOf corners) && not (pointInside (centreOf r) (edgesOf corners))
-
--- A cell has room
-pub cell-room : (c : Cell) → IsCell c → Room (sidesOf c)
-unfolding sidesOf
-cell-room c is =
-    record {
-      across = low-below-high (c .level) (c .west .0) (is .coarsest) (is .finest);
-      up = low-below-high (c .level) (c .south .0) (is .coarsest) (is .finest);
-    }
-
--- It never passes over a half that holds a wanted cell
-pub passed-none : (corners : List Point) {r : Rectangle} → passesOver corners r ≡ true → {from finest : ℕ} → Best corners from finest r Nowhere
-unfolding passesOver inside
-passed-none corners {r} t d w =
-    let ts = both (unmet r (edgesOf corners)) (not (pointInside (centreOf r) (edgesOf corners))) t in
-    let room : Room (sidesOf d) = cell-room d (w .cell) in
-    let wide : Room r = omega (arith, room .across, room .up, w .lies .west, w .lies .east, w .lies .south, w .lies .north) in
-    let ds = both (unmet (sidesOf d) (edgesOf corners)) (pointInside (centreOf (sidesOf d)) (edgesOf corners)) (w .is) in
-    let same = same-inside (lies-within (w .lies) (centre-lies room)) (centre-lies wide) corners (ts .0) in
-    false≢true (ap not (sym (sym same ∙ ds .1)) ∙ ts .1)
 
 -- A cell that is sooner is before the other
 sooner-before : (d c : Cell) → sooner d c ≡ true → Before d c
@@ -129,10 +90,10 @@ before-then x d c (inr (e, inl h)) (inr (f, inr (k, l))) = inr (e ∙ f, inl (om
 before-then x d c (inr (e, inr (k, h))) (inr (f, inl l)) = inr (e ∙ f, inl (omega arith))
 before-then x d c (inr (e, inr (k, h))) (inr (f, inr (m, l))) = inr (e ∙ f, inr (k ∙ m, omega arith))
 
-module _ {corners : List Point} {from : ℕ} where
+module _ {es : List Edge} {from : ℕ} where
   -- A wanted cell of a part, or of fewer levels, is one of the whole
-  pub wanted-within : {limit finest : ℕ} {r s : Rectangle} {c : Cell} → limit ≤ finest → Within r s → Wanted corners from limit r c
-      → Wanted corners from finest s c
+  pub wanted-within : {limit finest : ℕ} {r s : Rectangle} {c : Cell} → limit ≤ finest → Within r s → Wanted es from limit r c
+      → Wanted es from finest s c
   wanted-within less h w =
       record {
         cell = w .cell;
@@ -143,37 +104,37 @@ module _ {corners : List Point} {from : ℕ} where
       }
 
   -- and one of the whole that lies in a part and is of those levels is one of the part
-  pub wanted-part : {limit finest : ℕ} {r s : Rectangle} {c : Cell} → Wanted corners from finest s c → c .level ≤ limit
-      → Within (sidesOf c) r → Wanted corners from limit r c
+  pub wanted-part : {limit finest : ℕ} {r s : Rectangle} {c : Cell} → Wanted es from finest s c → c .level ≤ limit
+      → Within (sidesOf c) r → Wanted es from limit r c
   wanted-part w most lies = record { cell = w .cell; least = w .least; most = most; is = w .is; lies = lies }
 
   module _ (finest : ℕ) where
     -- The answer for ground that holds every wanted cell of a larger one is the answer for that
-    pub best-all : {r s : Rectangle} (choice : Choice) → Within r s → ((d : Cell) → Wanted corners from finest s d → Within (sidesOf d) r)
-        → Best corners from finest r choice → Best corners from finest s choice
+    pub best-all : {r s : Rectangle} (choice : Choice) → Within r s → ((d : Cell) → Wanted es from finest s d → Within (sidesOf d) r)
+        → Best es from finest r choice → Best es from finest s choice
     best-all (At c) h all b = (wanted-within (omega arith) h (b .0), λ d w. b .1 d (wanted-part w (w .most) (all d w)))
     best-all Nowhere h all b = λ d w. b d (wanted-part w (w .most) (all d w))
 
     -- A cell of the coarsest level is the answer for all levels
-    pub best-here : {r : Rectangle} {c : Cell} → from ≤ finest → Best corners from from r (At c) → Best corners from finest r (At c)
+    pub best-here : {r : Rectangle} {c : Cell} → from ≤ finest → Best es from from r (At c) → Best es from finest r (At c)
     best-here {r} {c} less b = (wanted-within less (omega arith) (b .0), λ d w l. b .1 d (wanted-part w (most d w l) (w .lies)) l)
       where
-        most : (d : Cell) → Wanted corners from finest r d → Before d c → d .level ≤ from
+        most : (d : Cell) → Wanted es from finest r d → Before d c → d .level ≤ from
         most d w l = omega (arith, before-most d c l, b .0 .most)
 
     -- and where there is none of that level, the answer is that for the finer ones
-    pub best-below : (r : Rectangle) (choice : Choice) → Best corners from from r Nowhere → Best corners (from + 1) finest r choice
-        → Best corners from finest r choice
+    pub best-below : (r : Rectangle) (choice : Choice) → Best es from from r Nowhere → Best es (from + 1) finest r choice
+        → Best es from finest r choice
     best-below r choice none = by choice
       where
-        finer : (d : Cell) → Wanted corners from finest r d → Wanted corners (from + 1) finest r d
+        finer : (d : Cell) → Wanted es from finest r d → Wanted es (from + 1) finest r d
         finer d w = at (either-way (d .level) from)
           where
-            at : (d .level ≤ from) ⊎ (from < d .level) → Wanted corners (from + 1) finest r d
+            at : (d .level ≤ from) ⊎ (from < d .level) → Wanted es (from + 1) finest r d
             at (inl h) = absurd (none d (wanted-part w h (w .lies)))
             at (inr h) = record { cell = w .cell; least = omega arith; most = w .most; is = w .is; lies = w .lies }
 
-        by : (choice : Choice) → Best corners (from + 1) finest r choice → Best corners from finest r choice
+        by : (choice : Choice) → Best es (from + 1) finest r choice → Best es from finest r choice
         by (At c) b = (
           record { cell = b .0 .cell; least = omega (arith, b .0 .least); most = b .0 .most; is = b .0 .is; lies = b .0 .lies },
           λ d w. b .1 d (finer d w),
@@ -181,16 +142,16 @@ module _ {corners : List Point} {from : ℕ} where
         by Nowhere b = λ d w. b d (finer d w)
 
 -- The level of an answer is one of those that were searched, or the other number
-pub level-between : (corners : List Point) (from finest : ℕ) (r : Rectangle) (none : ℕ) (a : Choice) → Best corners from finest r a
+pub level-between : (es : List Edge) (from finest : ℕ) (r : Rectangle) (none : ℕ) (a : Choice) → Best es from finest r a
     → from ≤ none → finest ≤ none → (from ≤ levelOf a none) × (levelOf a none ≤ none)
-level-between corners from finest r none (At c) b least most = (b .0 .least, omega (arith, b .0 .most))
-level-between corners from finest r none Nowhere b least most = (least, omega arith)
+level-between es from finest r none (At c) b least most = (b .0 .least, omega (arith, b .0 .most))
+level-between es from finest r none Nowhere b least most = (least, omega arith)
 
 -- Two parts of ground that hold all its wanted cells, where none of the second has the west side of one of the first and is lower
-record Parts (corners : List Point) (from finest : ℕ) (r p q : Rectangle) : Type 0 where
+record Parts (es : List Edge) (from finest : ℕ) (r p q : Rectangle) : Type 0 where
   first : Within p r
   second : Within q r
-  all : (d : Cell) → Wanted corners from finest r d → (Within (sidesOf d) p) ⊎ (Within (sidesOf d) q)
+  all : (d : Cell) → Wanted es from finest r d → (Within (sidesOf d) p) ⊎ (Within (sidesOf d) q)
   apart : (c d : Cell) → IsCell c → Within (sidesOf c) p → Within (sidesOf d) q → d .west .0 ≡ c .west .0 → d .south .0 < c .south .0 → ⊥
 
 -- A cell does not come before an answer
@@ -198,20 +159,20 @@ abbrev Later : Choice → Cell → Type 0
 Later (At c) d = Before d c → ⊥
 Later Nowhere d = ⊥
 
-module _ {corners : List Point} {from finest limit : ℕ} {r p q : Rectangle} (parts : Parts corners from finest r p q) (less : limit ≤ finest) where
+module _ {es : List Edge} {from finest limit : ℕ} {r p q : Rectangle} (parts : Parts es from finest r p q) (less : limit ≤ finest) where
   -- A wanted cell is one of the first part, or one of the second of a level up to a limit, or of a finer one
-  sorted : (d : Cell) → Wanted corners from finest r d
-      → (Wanted corners from finest p d) ⊎ ((Wanted corners from limit q d) ⊎ (Wanted corners from finest q d × (limit < d .level)))
+  sorted : (d : Cell) → Wanted es from finest r d
+      → (Wanted es from finest p d) ⊎ ((Wanted es from limit q d) ⊎ (Wanted es from finest q d × (limit < d .level)))
   sorted d w = at (parts .all d w) (either-way (d .level) limit)
     where
       at : (Within (sidesOf d) p) ⊎ (Within (sidesOf d) q) → (d .level ≤ limit) ⊎ (limit < d .level)
-          → (Wanted corners from finest p d) ⊎ ((Wanted corners from limit q d) ⊎ (Wanted corners from finest q d × (limit < d .level)))
+          → (Wanted es from finest p d) ⊎ ((Wanted es from limit q d) ⊎ (Wanted es from finest q d × (limit < d .level)))
       at (inl lies) h = inl (wanted-part w (w .most) lies)
       at (inr lies) (inl h) = inr (inl (wanted-part w h lies))
       at (inr lies) (inr h) = inr (inr (wanted-part w (w .most) lies, h))
 
   -- A cell of the second part that comes before one of the first comes before one that is not sooner
-  further : (x c e : Cell) → Wanted corners from finest p c → Wanted corners from limit q x → sooner e c ≡ false → Before x c → Before x e
+  further : (x c e : Cell) → Wanted es from finest p c → Wanted es from limit q x → sooner e c ≡ false → Before x c → Before x e
   further x c e s w t l = at l (not-sooner e c t)
     where
       at : Before x c → (c .level < e .level) ⊎ ((c .level ≡ e .level) × (c .west .0 ≤ e .west .0)) → Before x e
@@ -222,135 +183,135 @@ module _ {corners : List Point} {from finest limit : ℕ} {r p q : Rectangle} (p
 
   -- The answer for one part, and that for the other by the levels up to a limit, where finer cells there come no earlier, make the
   -- answer for the whole
-  best-parts : (a b : Choice) → ((d : Cell) → Wanted corners from finest q d → limit < d .level → Later a d)
-      → Best corners from finest p a → Best corners from limit q b → Best corners from finest r (earlier a b)
+  best-parts : (a b : Choice) → ((d : Cell) → Wanted es from finest q d → limit < d .level → Later a d)
+      → Best es from finest p a → Best es from limit q b → Best es from finest r (earlier a b)
   best-parts Nowhere Nowhere past s n = λ d w. by d (sorted d w)
     where
-      by : (d : Cell) → (Wanted corners from finest p d) ⊎ ((Wanted corners from limit q d) ⊎ (Wanted corners from finest q d × (limit < d .level))) → ⊥
+      by : (d : Cell) → (Wanted es from finest p d) ⊎ ((Wanted es from limit q d) ⊎ (Wanted es from finest q d × (limit < d .level))) → ⊥
       by d (inl w) = s d w
       by d (inr (inl w)) = n d w
       by d (inr (inr (w, h))) = past d w h
   best-parts Nowhere (At e) past s n = (wanted-within less (parts .second) (n .0), λ d w l. by d l (sorted d w))
     where
       by : (d : Cell) → Before d e
-          → (Wanted corners from finest p d) ⊎ ((Wanted corners from limit q d) ⊎ (Wanted corners from finest q d × (limit < d .level))) → ⊥
+          → (Wanted es from finest p d) ⊎ ((Wanted es from limit q d) ⊎ (Wanted es from finest q d × (limit < d .level))) → ⊥
       by d l (inl w) = s d w
       by d l (inr (inl w)) = n .1 d w l
       by d l (inr (inr (w, h))) = past d w h
   best-parts (At c) Nowhere past s n = (wanted-within (omega arith) (parts .first) (s .0), λ d w l. by d l (sorted d w))
     where
       by : (d : Cell) → Before d c
-          → (Wanted corners from finest p d) ⊎ ((Wanted corners from limit q d) ⊎ (Wanted corners from finest q d × (limit < d .level))) → ⊥
+          → (Wanted es from finest p d) ⊎ ((Wanted es from limit q d) ⊎ (Wanted es from finest q d × (limit < d .level))) → ⊥
       by d l (inl w) = s .1 d w l
       by d l (inr (inl w)) = n d w
       by d l (inr (inr (w, h))) = past d w h l
   best-parts (At c) (At e) past s n = choose (sooner e c) refl
     where
       second : sooner e c ≡ true → (d : Cell) → Before d e
-          → (Wanted corners from finest p d) ⊎ ((Wanted corners from limit q d) ⊎ (Wanted corners from finest q d × (limit < d .level))) → ⊥
+          → (Wanted es from finest p d) ⊎ ((Wanted es from limit q d) ⊎ (Wanted es from finest q d × (limit < d .level))) → ⊥
       second t d l (inl w) = s .1 d w (before-then d e c l (sooner-before e c t))
       second t d l (inr (inl w)) = n .1 d w l
       second t d l (inr (inr (w, h))) = omega (arith, before-most d e l, n .0 .most)
 
       first : sooner e c ≡ false → (d : Cell) → Before d c
-          → (Wanted corners from finest p d) ⊎ ((Wanted corners from limit q d) ⊎ (Wanted corners from finest q d × (limit < d .level))) → ⊥
+          → (Wanted es from finest p d) ⊎ ((Wanted es from limit q d) ⊎ (Wanted es from finest q d × (limit < d .level))) → ⊥
       first t d l (inl w) = s .1 d w l
       first t d l (inr (inl w)) = n .1 d w (further d c e (s .0) w t l)
       first t d l (inr (inr (w, h))) = past d w h l
 
-      choose : (t : Bool) → sooner e c ≡ t → Best corners from finest r (cond t (At e) (At c))
+      choose : (t : Bool) → sooner e c ≡ t → Best es from finest r (cond t (At e) (At c))
       choose true t = (wanted-within less (parts .second) (n .0), λ d w l. second t d l (sorted d w))
       choose false t = (wanted-within (omega arith) (parts .first) (s .0), λ d w l. first t d l (sorted d w))
 
 -- A low side of the coarsest level is one of each wanted cell's level
-wanted-side : {corners : List Point} {from finest : ℕ} {r : Rectangle} (d : Cell) → 9 ≤ from → {a : ℕ} → lowSide from a ≡ a
-    → Wanted corners from finest r d → lowSide (d .level) a ≡ a
-wanted-side {from = from} d coarsest {a} is w = low-finer from (d .level) a coarsest (w .least) (w .cell .finest) is
+wanted-side : {es : List Edge} {from finest : ℕ} {r : Rectangle} (d : Cell) → coarsestLevel ≤ from → {a : ℕ} → lowSide from a ≡ a
+    → Wanted es from finest r d → lowSide (d .level) a ≡ a
+wanted-side {from = from} d coarsest {a} is w = low-finer from (d .level) a coarsest (w .least) (w .cell .level .finest) is
 
-module _ (corners : List Point) (from finest : ℕ) (coarsest : 9 ≤ from) (r : Rectangle) where
+module _ (es : List Edge) (from finest : ℕ) (coarsest : coarsestLevel ≤ from) (r : Rectangle) where
   -- The parts south and north of a latitude that is a low side of the coarsest level
   lat-parts : (at : Lat) → lowSide from (at .0) ≡ at .0 → r .south .0 ≤ at .0 → at .0 ≤ r .north .0
-      → Parts corners from finest r (southOf r at) (northOf r at)
+      → Parts es from finest r (southOf r at) (northOf r at)
   unfolding sidesOf
   lat-parts at is low high =
       record {
         first = omega arith;
         second = omega arith;
-        all = λ d w. by d w (split (d .level) (at .0) (d .south .0) (w .cell .coarsest) (w .cell .finest) (wanted-side d coarsest is w) (w .cell .south));
-        apart = λ c d k p q e h. omega (arith, cell-room c k .up, p .north, q .south);
+        all = λ d w. by d w (split (d .level) (at .0) (d .south .0) (w .cell .level) (wanted-side d coarsest is w) (w .cell .south));
+        apart = λ c d k p q e h. omega (arith, cell-wide c (k .level) .up, p .north, q .south);
       }
     where
-      by : (d : Cell) → Wanted corners from finest r d → (highSide (d .level) (d .south .0) ≤ at .0) ⊎ (at .0 ≤ d .south .0)
+      by : (d : Cell) → Wanted es from finest r d → (highSide (d .level) (d .south .0) ≤ at .0) ⊎ (at .0 ≤ d .south .0)
           → (Within (sidesOf d) (southOf r at)) ⊎ (Within (sidesOf d) (northOf r at))
       by d w (inl h) = inl (record { west = w .lies .west; east = w .lies .east; south = w .lies .south; north = h })
       by d w (inr h) = inr (record { west = w .lies .west; east = w .lies .east; south = h; north = w .lies .north })
 
   -- and west and east of such a longitude
   lon-parts : (at : Lon) → lowSide from (at .0) ≡ at .0 → r .west .0 ≤ at .0 → at .0 ≤ r .east .0
-      → Parts corners from finest r (westOf r at) (eastOf r at)
+      → Parts es from finest r (westOf r at) (eastOf r at)
   unfolding sidesOf
   lon-parts at is low high =
       record {
         first = omega arith;
         second = omega arith;
-        all = λ d w. by d w (split (d .level) (at .0) (d .west .0) (w .cell .coarsest) (w .cell .finest) (wanted-side d coarsest is w) (w .cell .west));
-        apart = λ c d k p q e h. omega (arith, cell-room c k .across, p .east, q .west);
+        all = λ d w. by d w (split (d .level) (at .0) (d .west .0) (w .cell .level) (wanted-side d coarsest is w) (w .cell .west));
+        apart = λ c d k p q e h. omega (arith, cell-wide c (k .level) .across, p .east, q .west);
       }
     where
-      by : (d : Cell) → Wanted corners from finest r d → (highSide (d .level) (d .west .0) ≤ at .0) ⊎ (at .0 ≤ d .west .0)
+      by : (d : Cell) → Wanted es from finest r d → (highSide (d .level) (d .west .0) ≤ at .0) ⊎ (at .0 ≤ d .west .0)
           → (Within (sidesOf d) (westOf r at)) ⊎ (Within (sidesOf d) (eastOf r at))
       by d w (inl h) = inl (record { west = w .lies .west; east = h; south = w .lies .south; north = w .lies .north })
       by d w (inr h) = inr (record { west = h; east = w .lies .east; south = w .lies .south; north = w .lies .north })
 
   -- North of what was found a cell comes earlier only where it is of no finer level
   pub best-lat : (at : Lat) → lowSide from (at .0) ≡ at .0 → r .south .0 ≤ at .0 → at .0 ≤ r .north .0 → (a b : Choice)
-      → Best corners from finest (southOf r at) a → Best corners from (levelOf a finest) (northOf r at) b → Best corners from finest r (earlier a b)
+      → Best es from finest (southOf r at) a → Best es from (levelOf a finest) (northOf r at) b → Best es from finest r (earlier a b)
   best-lat at is low high a b s = best-parts (lat-parts at is low high) (most a s) a b (past a) s
     where
-      most : (a : Choice) → Best corners from finest (southOf r at) a → levelOf a finest ≤ finest
+      most : (a : Choice) → Best es from finest (southOf r at) a → levelOf a finest ≤ finest
       most (At c) s = s .0 .most
       most Nowhere s = omega arith
 
-      past : (a : Choice) (d : Cell) → Wanted corners from finest (northOf r at) d → levelOf a finest < d .level → Later a d
+      past : (a : Choice) (d : Cell) → Wanted es from finest (northOf r at) d → levelOf a finest < d .level → Later a d
       past (At c) d w h = λ l. omega (arith, before-most d c l)
       past Nowhere d w h = omega (arith, w .most)
 
   -- and east of it only where it is of a coarser one
   pub best-lon : (at : Lon) → lowSide from (at .0) ≡ at .0 → r .west .0 ≤ at .0 → at .0 ≤ r .east .0 → (a b : Choice)
-      → Best corners from finest (westOf r at) a → Best corners from (levelOf a (finest + 1) - 1) (eastOf r at) b
-      → Best corners from finest r (earlier a b)
+      → Best es from finest (westOf r at) a → Best es from (levelOf a (finest + 1) - 1) (eastOf r at) b
+      → Best es from finest r (earlier a b)
   unfolding sidesOf
   best-lon at is low high a b s = best-parts (lon-parts at is low high) (most a s) a b (past a s) s
     where
-      most : (a : Choice) → Best corners from finest (westOf r at) a → levelOf a (finest + 1) - 1 ≤ finest
+      most : (a : Choice) → Best es from finest (westOf r at) a → levelOf a (finest + 1) - 1 ≤ finest
       most (At c) s = omega (arith, s .0 .most)
       most Nowhere s = omega arith
 
-      past : (a : Choice) → Best corners from finest (westOf r at) a → (d : Cell) → Wanted corners from finest (eastOf r at) d
+      past : (a : Choice) → Best es from finest (westOf r at) a → (d : Cell) → Wanted es from finest (eastOf r at) d
           → levelOf a (finest + 1) - 1 < d .level → Later a d
       past (At c) s d w h = not-west
         where
           not-west : Before d c → ⊥
           not-west (inl l) = omega arith
-          not-west (inr (e, inl l)) = omega (arith, cell-room c (s .0 .cell) .across, s .0 .lies .east, w .lies .west)
-          not-west (inr (e, inr (k, l))) = omega (arith, cell-room c (s .0 .cell) .across, s .0 .lies .east, w .lies .west)
+          not-west (inr (e, inl l)) = omega (arith, cell-wide c (s .0 .cell .level) .across, s .0 .lies .east, w .lies .west)
+          not-west (inr (e, inr (k, l))) = omega (arith, cell-wide c (s .0 .cell .level) .across, s .0 .lies .east, w .lies .west)
       past Nowhere s d w h = omega (arith, w .most)
 
   -- so that what is of the coarsest level is the answer for the whole
   pub best-west : (at : Lon) → lowSide from (at .0) ≡ at .0 → r .west .0 ≤ at .0 → at .0 ≤ r .east .0 → (a : Choice)
-      → Best corners from finest (westOf r at) a → levelOf a (finest + 1) - 1 < from → Best corners from finest r a
+      → Best es from finest (westOf r at) a → levelOf a (finest + 1) - 1 < from → Best es from finest r a
   best-west at is low high (At c) s h = best-lon at is low high (At c) Nowhere s λ d w. omega (arith, w .least, w .most)
   best-west at is low high Nowhere s h = best-lon at is low high Nowhere Nowhere s λ d w. omega (arith, w .least, w .most)
 
   -- Where all levels are searched in both parts, the first of the two answers is that for the whole
-  best-both : {p q : Rectangle} → Parts corners from finest r p q → (a b : Choice)
-      → Best corners from finest p a → Best corners from finest q b → Best corners from finest r (earlier a b)
+  best-both : {p q : Rectangle} → Parts es from finest r p q → (a b : Choice)
+      → Best es from finest p a → Best es from finest q b → Best es from finest r (earlier a b)
   best-both parts a b = best-parts parts (omega arith) a b λ d w h. let none : ⊥ = omega (arith, w .most) in absurd none
 
   pub best-north : (at : Lat) → lowSide from (at .0) ≡ at .0 → r .south .0 ≤ at .0 → at .0 ≤ r .north .0 → (a b : Choice)
-      → Best corners from finest (southOf r at) a → Best corners from finest (northOf r at) b → Best corners from finest r (earlier a b)
+      → Best es from finest (southOf r at) a → Best es from finest (northOf r at) b → Best es from finest r (earlier a b)
   best-north at is low high = best-both (lat-parts at is low high)
 
   pub best-east : (at : Lon) → lowSide from (at .0) ≡ at .0 → r .west .0 ≤ at .0 → at .0 ≤ r .east .0 → (a b : Choice)
-      → Best corners from finest (westOf r at) a → Best corners from finest (eastOf r at) b → Best corners from finest r (earlier a b)
+      → Best es from finest (westOf r at) a → Best es from finest (eastOf r at) b → Best es from finest r (earlier a b)
   best-east at is low high = best-both (lon-parts at is low high)

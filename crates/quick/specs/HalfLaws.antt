@@ -1,378 +1,342 @@
--- The laws of a half: its parts, the count at its centre, the answer for a half that is a cell, and the halves that follow. Assumes nothing.
-use Prim.Native.Nat.{ℕ, _+_, _-_, _*_, _/_, _≤_, _<_}
-use native.Mathlib.Nat.{eq-or-lt-of-le}
+-- The laws of a half: how a loop takes its kept edges from the room one by one and moves some behind the others, and what is known of its
+-- parts. Assumes nothing.
+use Prim.Native.Nat.{ℕ, zero, suc, _+_, _-_, _*_, _/_, _≤_, _<_}
+use native.Mathlib.Numerals.{add-one}
 use native.Mathlib.Omega.{arith}
-use mathlib.Core.Path.{_≡_, refl, sym, ap, subst, _∙_}
+use mathlib.Core.Path.{_≡_, refl, ap, ap₂, _∙_, sym, subst}
 use mathlib.Core.Logic.{_⊎_, inl, inr}
-use mathlib.Core.Bool.{Bool, true, false, not, _&&_, true≢false}
-use mathlib.Core.List.{List}
-use Rattle.ground.specs.declared.Lat.{Lat}
+use mathlib.Core.Bool.{Bool, true, false, not, _&&_, Bool·beq}
+use mathlib.Core.List.{List, [], _∷_, _++_, map, append-nil, append-assoc, map-append}
+use lib.ListN.{length, drop, drop-of-length-le}
+use borrow.Author.Tests.{not-true, not-false}
+use Rattle.facts.specs.Tests.{differ, differ-comm, unlike}
+use Rattle.facts.specs.Numbers.{either-way}
+use Rattle.facts.specs.Lists.{countUp}
 use Rattle.ground.specs.declared.Lon.{Lon}
 use Rattle.ground.specs.declared.Point.{Point}
 use Rattle.ground.specs.declared.Rectangle.{Rectangle}
-use Rattle.ground.specs.declared.Cell.{Cell}
-use Rattle.ground.specs.Levels.{latEnd, lonEnd}
-use Rattle.ground.specs.Cells.{lowSide, highSide, sidesOf, centreOf, IsCell}
-use Rattle.ground.specs.CellTest.{low-below-high}
-use Rattle.ground.specs.Sides.{none-between}
-use Rattle.ground.specs.Halves.{Span, low-half, half-most, high-half, whole-half}
-use Rattle.boundary.specs.Boundary.{edgesOf, pointInside, unmet, inside}
-use Rattle.boundary.specs.Corners.{cornersOf}
-use Rattle.boundary.specs.Missing.{Within}
-use Rattle.boundary.specs.Parity.{Lies, same-inside}
-use Rattle.boundary.specs.Inner.{centre-lies}
-use Rattle.unit.specs.declared.Choice.{Choice}
-use Rattle.unit.specs.declared.Choice.the-variants.{At, Nowhere}
-use Rattle.unit.specs.Chosen.{Before}
+use Rattle.ground.specs.Rectangles.{Within, Lies, Wide, southWest}
+use Rattle.ground.specs.RectanglesLaws.{wide-ordered, within-self, within-then, lies-within, corner-lies}
+use Rattle.edge.specs.Edge.{Edge, misses, turns}
+use Rattle.boundary.specs.Boundary.{pointInside, unmet}
+use Rattle.boundary.specs.Sums.{differ-sums}
+use Rattle.boundary.specs.Closed.{oddly, Closed}
+use Rattle.boundary.specs.Keeps.{Keeps, keeps-inner, keeps-drop, keeps-unmet, keeps-turned}
+use Rattle.boundary.specs.Listed.{edgesIn, edgeIn, withEdge}
+use Rattle.boundary.specs.ListedLaws.{edges-length, edges-from, with-length, edge-there, edge-before}
 use Rattle.quick.specs.declared.half.Half.{Half}
-use Rattle.quick.specs.Kept.{southWest, Sound, Part}
-use Rattle.quick.specs.Best.{Wanted, Best, southOf, northOf, westOf, eastOf, passesOver, earlier, levelOf, level-between, best-below, best-lat, best-lon, best-west}
-use Rattle.quick.specs.Asked.{ByLat, ByLon}
+use Rattle.quick.specs.Half.{keptIn, Same, KeptFor, Sound, Part, AllIn}
 
-module _ {numbers room : List ℕ} {h : Half} (s : Sound numbers room h) where
-  -- The parts of a half's ground have room and lie within it
-  pub south-part : (at : Lat) → (h .ground .south .0 < at .0) × (at .0 < h .ground .north .0) → Part h (southOf (h .ground) at)
-  south-part at b = record { wide = omega (arith, s .wide .across, b .0); within = omega (arith, b .1) }
+-- Edges that are the same at so many places from one on make the same list
+places-same : (f g : ℕ → Edge) (n i : ℕ) → ((j : ℕ) → i ≤ j → j < i + n → f j ≡ g j) → map f (countUp n i) ≡ map g (countUp n i)
+places-same f g zero i h = refl
+places-same f g (suc n) i h =
+    ap₂ (λ (e : Edge) (es : List Edge). e ∷ es) (h i (omega arith) (omega arith))
+    (places-same f g n (suc i) (λ j p q. h j (omega arith) (omega arith)))
 
-  pub north-part : (at : Lat) → (h .ground .south .0 < at .0) × (at .0 < h .ground .north .0) → Part h (northOf (h .ground) at)
-  north-part at b = record { wide = omega (arith, s .wide .across, b .1); within = omega (arith, b .0) }
+-- The last of so many places
+places-last : (n i : ℕ) → countUp (suc n) i ≡ countUp n i ++ ((i + n) ∷ [])
+places-last zero i = ap (λ (k : ℕ). k ∷ []) (omega arith)
+places-last (suc n) i =
+    let here : suc i + n ≡ i + suc n = omega arith in
+    ap (λ (js : List ℕ). i ∷ js) (places-last n (suc i) ∙ ap (λ (k : ℕ). countUp n (suc i) ++ (k ∷ [])) here)
 
-  pub west-part : (at : Lon) → (h .ground .west .0 < at .0) × (at .0 < h .ground .east .0) → Part h (westOf (h .ground) at)
-  west-part at b = record { wide = omega (arith, s .wide .up, b .0); within = omega (arith, b .1) }
+-- The first edges of a list stand in a room from its start, and it is as long as it was
+pub record Filled (edges lent room : List ℕ) (i : ℕ) : Type 0 where
+  pub own : (j : ℕ) → j < i → edgeIn room j ≡ edgeIn edges j
+  pub long : length room ≡ length lent
 
-  pub east-part : (at : Lon) → (h .ground .west .0 < at .0) × (at .0 < h .ground .east .0) → Part h (eastOf (h .ground) at)
-  east-part at b = record { wide = omega (arith, s .wide .up, b .1); within = omega (arith, b .0) }
+-- At first none does
+pub filled-begin : (edges lent : List ℕ) → Filled edges lent lent 0
+filled-begin edges lent = record { own = λ j h. let none : ⊥ = omega arith in absurd none; long = refl }
 
-  -- The south-west corner of a part lies in the ground
-  pub corner-lies : {part : Rectangle} → Part h part → Lies (h .ground) (southWest part)
-  corner-lies p = omega (arith, p .wide .across, p .wide .up, p .within .west, p .within .east, p .within .south, p .within .north)
-
-  -- Where no edge meets a half, the count at its centre is odd where it is at its south-west corner
-  centre-odd : unmet (h .ground) (edgesOf (cornersOf numbers)) ≡ true → pointInside (centreOf (h .ground)) (edgesOf (cornersOf numbers)) ≡ h .odd
-  centre-odd u =
-      let lies : Lies (h .ground) (southWest (h .ground)) = omega (arith, s .wide .across, s .wide .up) in
-      same-inside (centre-lies (s .wide)) lies (cornersOf numbers) u ∙ sym (s .odd)
-
-  -- So passing over is told by the corner's count
-  pub passed-even : not (h .odd) ≡ true → unmet (h .ground) (edgesOf (cornersOf numbers)) ≡ passesOver (cornersOf numbers) (h .ground)
-  unfolding passesOver
-  passed-even e = at (unmet (h .ground) (edgesOf (cornersOf numbers))) refl
-    where
-      at : (t : Bool) → unmet (h .ground) (edgesOf (cornersOf numbers)) ≡ t
-          → t ≡ (t && not (pointInside (centreOf (h .ground)) (edgesOf (cornersOf numbers))))
-      at true u = sym (ap not (centre-odd u) ∙ e)
-      at false u = refl
-
-  pub passed-odd : not (h .odd) ≡ false → false ≡ passesOver (cornersOf numbers) (h .ground)
-  unfolding passesOver
-  passed-odd e = at (unmet (h .ground) (edgesOf (cornersOf numbers))) refl
-    where
-      at : (t : Bool) → unmet (h .ground) (edgesOf (cornersOf numbers)) ≡ t
-          → false ≡ (t && not (pointInside (centreOf (h .ground)) (edgesOf (cornersOf numbers))))
-      at true u = sym (ap not (centre-odd u) ∙ e)
-      at false u = refl
-
-  -- and so is the test of a cell
-  pub tried-odd : h .odd ≡ true
-      → (unmet (h .ground) (edgesOf (cornersOf numbers)) && pointInside (centreOf (h .ground)) (edgesOf (cornersOf numbers)))
-      ≡ unmet (h .ground) (edgesOf (cornersOf numbers))
-  tried-odd e = at (unmet (h .ground) (edgesOf (cornersOf numbers))) refl
-    where
-      at : (t : Bool) → unmet (h .ground) (edgesOf (cornersOf numbers)) ≡ t
-          → (t && pointInside (centreOf (h .ground)) (edgesOf (cornersOf numbers))) ≡ t
-      at true u = centre-odd u ∙ e
-      at false u = refl
-
-  pub tried-even : h .odd ≡ false
-      → (unmet (h .ground) (edgesOf (cornersOf numbers)) && pointInside (centreOf (h .ground)) (edgesOf (cornersOf numbers))) ≡ false
-  tried-even e = at (unmet (h .ground) (edgesOf (cornersOf numbers))) refl
-    where
-      at : (t : Bool) → unmet (h .ground) (edgesOf (cornersOf numbers)) ≡ t
-          → (t && pointInside (centreOf (h .ground)) (edgesOf (cornersOf numbers))) ≡ false
-      at true u = centre-odd u ∙ e
-      at false u = refl
-
--- The cell of a level with the south-west corner of a rectangle
-abbrev pub cellOf : ℕ → Rectangle → Cell
-cellOf level r = record { level = level; west = r .west; south = r .south }
-
-module _ (corners : List Point) {level : ℕ} {r : Rectangle} (b : ByLat level 0 r) where
-  -- A half with no halvings left has the sides of a cell of the level
-  lat-span : Span level (r .south .0) (r .north .0)
-  lat-span = let same : level - 0 / 2 ≡ level = omega arith in subst (λ (n : ℕ). Span n (r .south .0) (r .north .0)) same (b .lat)
-
-  lon-span : Span level (r .west .0) (r .east .0)
-  lon-span = let same : level - 0 / 2 ≡ level = omega arith in subst (λ (n : ℕ). Span n (r .west .0) (r .east .0)) same (b .lon)
-
-  coarse : 9 ≤ level
-  coarse = omega (arith, b .coarsest)
-
-  -- and is its ground
-  pub ground-cell : sidesOf (cellOf level r) ≡ r
-  unfolding sidesOf
-  ground-cell =
-      λ i. record { west = r .west; east = record { 0 = sym (lon-span .high) i }; south = r .south; north = record { 0 = sym (lat-span .high) i } }
-
-  cell-cell : IsCell (cellOf level r)
-  unfolding sidesOf
-  cell-cell =
-      record {
-        coarsest = coarse;
-        finest = b .finest;
-        west = lon-span .low;
-        south = lat-span .low;
-        east-end = subst (λ (n : ℕ). n ≤ lonEnd) (lon-span .high) (b .east-end);
-        north-end = subst (λ (n : ℕ). n ≤ latEnd) (lat-span .high) (b .north-end);
-      }
-
-  -- In one direction a cell of the level that lies in it starts where it does
-  one-side : {a e d : ℕ} → Span level a e → lowSide level d ≡ d → a ≤ d → highSide level d ≤ e → d ≡ a
-  one-side {a} {e} {d} s is least most = at (eq-or-lt-of-le least)
-    where
-      at : (a ≡ d) ⊎ (a < d) → d ≡ a
-      at (inl k) = sym k
-      at (inr k) =
-          let next : highSide level a ≤ d = none-between level coarse (b .finest) a d (s .low) is k in
-          let none : ⊥ = omega (arith, s .high, low-below-high level d coarse (b .finest)) in
-          absurd none
-
-  -- so that it is that cell
-  pub only-cell : (d : Cell) → Wanted corners level level r d → d ≡ cellOf level r
-  unfolding sidesOf
-  only-cell d w =
-      let of : d .level ≡ level = omega (arith, w .least, w .most) in
-      let west : d .west .0 ≡ r .west .0 =
-      one-side lon-span (subst (λ (n : ℕ). lowSide n (d .west .0) ≡ d .west .0) of (w .cell .west)) (w .lies .west)
-      (subst (λ (n : ℕ). highSide n (d .west .0) ≤ r .east .0) of (w .lies .east)) in
-      let south : d .south .0 ≡ r .south .0 =
-      one-side lat-span (subst (λ (n : ℕ). lowSide n (d .south .0) ≡ d .south .0) of (w .cell .south)) (w .lies .south)
-      (subst (λ (n : ℕ). highSide n (d .south .0) ≤ r .north .0) of (w .lies .north)) in
-      λ i. record { level = of i; west = record { 0 = west i }; south = record { 0 = south i } }
-
-  -- What the boundary says of the ground it says of the cell
-  cell-inside : {t : Bool} → (unmet r (edgesOf corners) && pointInside (centreOf r) (edgesOf corners)) ≡ t → inside corners (cellOf level r) ≡ t
-  unfolding inside
-  cell-inside e = ap (λ (x : Rectangle). unmet x (edgesOf corners) && pointInside (centreOf x) (edgesOf corners)) ground-cell ∙ e
-
-  -- So the answer for it is the cell, if it is inside
-  pub best-cell : (unmet r (edgesOf corners) && pointInside (centreOf r) (edgesOf corners)) ≡ true → Best corners level level r (At (cellOf level r))
-  unfolding sidesOf
-  best-cell e = (
-    record { cell = cell-cell; least = omega arith; most = omega arith; is = cell-inside e; lies = subst (λ (x : Rectangle). Within x r) (sym ground-cell) (omega arith) },
-    λ d w l. not-before d w l,
-  )
-    where
-      not-before : (d : Cell) → Wanted corners level level r d → Before d (cellOf level r) → ⊥
-      not-before d w (inl k) = omega (arith, w .least)
-      not-before d w (inr (e, inl k)) = omega (arith, w .lies .west)
-      not-before d w (inr (e, inr (k, m))) = omega (arith, w .lies .south)
-
-  pub best-no-cell : (unmet r (edgesOf corners) && pointInside (centreOf r) (edgesOf corners)) ≡ false → Best corners level level r Nowhere
-  best-no-cell e d w = true≢false (sym (w .is) ∙ ap (inside corners) (only-cell d w) ∙ cell-inside e)
-
--- A length of ground in one direction that is halved: where the halves meet, and what they are
-record Halved (n a b at : ℕ) : Type 0 where
-  low : a < at
-  high : at < b
-  first : Span (n + 1) a at
-  second : Span (n + 1) at b
-
--- It is halved at the high side of its low half, where that is not its own
-halved : (n : ℕ) → 9 ≤ n → n < 27 → {a b at : ℕ} → Span n a b → at ≡ highSide (n + 1) a → (at ≡ b → ⊥) → Halved n a b at
-halved n coarsest finest {a} {b} {at} s e other =
-    let most : at ≤ b = subst (λ (x : ℕ). x ≤ b) (sym e) (half-most n coarsest finest s) in
-    let less : at < b = below (eq-or-lt-of-le most) in
-    record {
-      low = subst (λ (x : ℕ). a < x) (sym e) (low-below-high (n + 1) a (omega arith) (omega arith));
-      high = less;
-      first = subst (λ (x : ℕ). Span (n + 1) a x) (sym e) (low-half n coarsest finest s);
-      second = subst (λ (x : ℕ). Span (n + 1) x b) (sym e) (high-half n coarsest finest s (subst (λ (x : ℕ). x < b) e less));
-    }
+-- One edge more
+pub filled-again : {edges lent room : List ℕ} {i : ℕ} → Filled edges lent room i → i < length lent / 4
+    → Filled edges lent (withEdge room i (edgeIn edges i)) (i + 1)
+filled-again {edges} {lent} {room} {i} f less =
+    record { own = λ j k. at j k (either-way i j); long = with-length room i (edgeIn edges i) ∙ f .long }
   where
-    below : (at ≡ b) ⊎ (at < b) → at < b
-    below (inl k) = absurd (other k)
-    below (inr k) = k
+    fits : i < length room / 4
+    fits = omega (arith, f .long)
 
--- The halves of ground by latitude
-pub record LatHalves (level left : ℕ) (r : Rectangle) (at : Lat) : Type 0 where
-  pub between : (r .south .0 < at .0) × (at .0 < r .north .0)
-  pub side : lowSide (level - (left - 1) / 2) (at .0) ≡ at .0
-  pub south : ByLon level (left - 1) (southOf r at)
-  pub north : ByLon level (left - 1) (northOf r at)
+    at : (j : ℕ) → j < i + 1 → (i ≤ j) ⊎ (j < i) → edgeIn (withEdge room i (edgeIn edges i)) j ≡ edgeIn edges j
+    at j k (inl p) =
+        let e : i ≡ j = omega arith in
+        subst (λ (n : ℕ). edgeIn (withEdge room i (edgeIn edges i)) n ≡ edgeIn edges n) e (edge-there room i (edgeIn edges i) fits)
+    at j k (inr p) = edge-before room i (edgeIn edges i) fits j p ∙ f .own j p
 
-module _ {level left : ℕ} {r : Rectangle} (b : ByLat level left r) (some : 0 < left) {at : Lat}
-    (e : at .0 ≡ highSide (level - left / 2 + 1) (r .south .0)) where
-  -- One halving less is left, and latitude is one level finer
-  finer-lat : level - left / 2 + 1 ≡ level - (left - 1) / 2
-  finer-lat = omega (arith, b .even, b .coarsest)
+-- with the room by another name
+pub filled-as : {edges lent room named : List ℕ} {i : ℕ} → named ≡ room → Filled edges lent room i → Filled edges lent named i
+filled-as {edges} {lent} {room} {named} {i} e f = subst (λ (l : List ℕ). Filled edges lent l i) (sym e) f
 
-  same-lon : level - left / 2 ≡ level - (left - 1) / 2 - 1
-  same-lon = omega (arith, b .even, b .coarsest)
+-- At the end all edges of the list stand there
+pub filled-end : {edges lent room : List ℕ} {i : ℕ} → Filled edges lent room i → length edges / 4 ≤ i → length edges / 4 ≤ length lent / 4
+    → AllIn edges room
+filled-end f h fits = record { fits = omega (arith, f .long); all = λ j k. f .own j (omega arith) }
 
-  by-lon-of : {south north : Lat} → Span (level - left / 2 + 1) (south .0) (north .0) → north .0 ≤ latEnd
-      → ByLon level (left - 1) (record { west = r .west; east = r .east; south = south; north = north })
-  by-lon-of {south} {north} s end =
-      record {
-        odd = omega (arith, b .even);
-        coarsest = omega (arith, b .even, b .coarsest);
-        finest = b .finest;
-        lat = subst (λ (n : ℕ). Span n (south .0) (north .0)) finer-lat s;
-        lon = subst (λ (n : ℕ). Span n (r .west .0) (r .east .0)) same-lon (b .lon);
-        north-end = end;
-        east-end = b .east-end;
-      }
+module _ (room : List ℕ) where
+  -- No edges from the end on
+  pub kept-none : (i to : ℕ) → to ≤ i → keptIn room i to ≡ []
+  kept-none i to h = let none : to - i ≡ 0 = omega arith in ap (λ (n : ℕ). map (edgeIn room) (countUp n i)) none
 
-  -- Ground that is halved by latitude
-  pub lat-halved : (at .0 ≡ r .north .0 → ⊥) → LatHalves level left r at
-  lat-halved other =
-      let h = halved (level - left / 2) (omega (arith, b .coarsest)) (omega (arith, b .even, b .finest)) (b .lat) e other in
-      record {
-        between = (h .low, h .high);
-        side = subst (λ (n : ℕ). lowSide n (at .0) ≡ at .0) finer-lat (h .second .low);
-        south = by-lon-of (h .first) (omega (arith, h .high, b .north-end));
-        north = by-lon-of (h .second) (b .north-end);
-      }
+  -- The first of the edges from a place on
+  pub kept-more : (i to : ℕ) → i < to → keptIn room i to ≡ edgeIn room i ∷ keptIn room (i + 1) to
+  kept-more i to h =
+      let more : to - i ≡ suc (to - (i + 1)) = omega arith in
+      ap (λ (n : ℕ). map (edgeIn room) (countUp n i)) more
+      ∙ ap (λ (k : ℕ). edgeIn room i ∷ map (edgeIn room) (countUp (to - (i + 1)) k)) (sym (add-one i))
 
-  -- and ground that is not
-  pub lat-whole : at .0 ≡ r .north .0 → ByLon level (left - 1) r
-  lat-whole same =
-      by-lon-of (whole-half (level - left / 2) (omega (arith, b .coarsest)) (omega (arith, b .even, b .finest)) (b .lat) (sym e ∙ same))
-      (b .north-end)
+-- The edges before a place are the same in a later room
+kept-same : (room later : List ℕ) {to : ℕ} → Same to room later → (from end : ℕ) → end ≤ to → keptIn later from end ≡ keptIn room from end
+kept-same room later same from end h = places-same (edgeIn later) (edgeIn room) (end - from) from (λ j p q. same j (omega arith))
 
--- The halves of ground by longitude
-pub record LonHalves (level left : ℕ) (r : Rectangle) (at : Lon) : Type 0 where
-  pub between : (r .west .0 < at .0) × (at .0 < r .east .0)
-  pub side : lowSide (level - left / 2) (at .0) ≡ at .0
-  pub west : ByLat level (left - 1) (westOf r at)
-  pub east : ByLat level (left - 1) (eastOf r at)
+-- The edges of a list by their places
+edges-places : (edges : List ℕ) (n i : ℕ) → i + n ≡ length edges / 4 → drop i (edgesIn edges) ≡ map (edgeIn edges) (countUp n i)
+edges-places edges zero i e = drop-of-length-le (edgesIn edges) {i = i} (omega (arith, edges-length edges))
+edges-places edges (suc n) i e =
+    edges-from edges i (omega arith) ∙ ap (λ (es : List Edge). edgeIn edges i ∷ es) (edges-places edges n (suc i) (omega arith))
 
-module _ {level left : ℕ} {r : Rectangle} (b : ByLon level left r) {at : Lon} (e : at .0 ≡ highSide (level - left / 2) (r .west .0)) where
-  -- One halving less is left, and longitude is one level finer
-  finer-lon : level - left / 2 - 1 + 1 ≡ level - left / 2
-  finer-lon = omega (arith, b .coarsest)
+-- Where all edges of a list stand in a room, they are those up to their count
+pub all-kept : {edges room : List ℕ} → AllIn edges room → keptIn room 0 (length edges / 4) ≡ edgesIn edges
+all-kept {edges} {room} l =
+    let all : length edges / 4 - 0 ≡ length edges / 4 = omega arith in
+    ap (λ (n : ℕ). map (edgeIn room) (countUp n 0)) all
+    ∙ places-same (edgeIn room) (edgeIn edges) (length edges / 4) 0 (λ j p q. l .all j (omega arith))
+    ∙ sym (edges-places edges (length edges / 4) 0 (omega arith))
 
-  same-lat : level - left / 2 ≡ level - (left - 1) / 2
-  same-lat = omega (arith, b .odd)
+-- and stay so where the room stays the same up to there
+pub all-same : {edges room later : List ℕ} → AllIn edges room → length later ≡ length room → Same (length edges / 4) room later → AllIn edges later
+all-same l long same = record { fits = omega (arith, l .fits); all = λ j h. same j h ∙ l .all j h }
 
-  split-lon : at .0 ≡ highSide (level - left / 2 - 1 + 1) (r .west .0)
-  split-lon = e ∙ ap (λ (n : ℕ). highSide n (r .west .0)) (sym finer-lon)
+-- Whether no edge meets a rectangle is what the kept edges from place i on say
+pub record UnmetFrom (es : List Edge) (room : List ℕ) (r : Rectangle) (to i : ℕ) : Type 0 where
+  pub rest : unmet r es ≡ unmet r (keptIn room i to)
 
-  by-lat-of : {west east : Lon} → Span (level - left / 2 - 1 + 1) (west .0) (east .0) → east .0 ≤ lonEnd
-      → ByLat level (left - 1) (record { west = west; east = east; south = r .south; north = r .north })
-  by-lat-of {west} {east} s end =
-      record {
-        even = omega (arith, b .odd);
-        coarsest = omega (arith, b .odd, b .coarsest);
-        finest = b .finest;
-        lat = subst (λ (n : ℕ). Span n (r .south .0) (r .north .0)) same-lat (b .lat);
-        lon = subst (λ (n : ℕ). Span n (west .0) (east .0)) (finer-lon ∙ same-lat) s;
-        north-end = b .north-end;
-        east-end = end;
-      }
+-- At first by all of a half's edges
+pub unmet-begin : {es : List Edge} {room : List ℕ} {h : Half} → Sound es room h → UnmetFrom es room (h .ground) (h .to) (h .from)
+unmet-begin s = record { rest = keeps-unmet (keeps-inner (wide-ordered (s .wide)) (s .within) (s .kept .keeps)) }
 
-  -- Ground that is halved by longitude
-  pub lon-halved : (at .0 ≡ r .east .0 → ⊥) → LonHalves level left r at
-  lon-halved other =
-      let h = halved (level - left / 2 - 1) (omega (arith, b .coarsest)) (omega (arith, b .coarsest, b .finest)) (b .lon) split-lon other in
-      record {
-        between = (h .low, h .high);
-        side = subst (λ (n : ℕ). lowSide n (at .0) ≡ at .0) finer-lon (h .second .low);
-        west = by-lat-of (h .first) (omega (arith, h .high, b .east-end));
-        east = by-lat-of (h .second) (b .east-end);
-      }
+module _ {es : List Edge} {room : List ℕ} {r : Rectangle} {to i : ℕ} (u : UnmetFrom es room r to i) where
+  -- The first of the edges left, and the others
+  unmet-next : (b : Bool) → i < to → b ≡ misses (edgeIn room i) r
+      → unmet r es ≡ (b && unmet r (keptIn room (i + 1) to))
+  unmet-next b h t =
+      u .rest ∙ ap (unmet r) (kept-more room i to h) ∙ ap (λ (c : Bool). c && unmet r (keptIn room (i + 1) to)) (sym t)
 
-  -- and ground that is not
-  pub lon-whole : at .0 ≡ r .east .0 → ByLat level (left - 1) r
-  lon-whole same =
-      by-lat-of (whole-half (level - left / 2 - 1) (omega (arith, b .coarsest)) (omega (arith, b .coarsest, b .finest)) (b .lon) (sym split-lon ∙ same))
-      (b .east-end)
+  -- An edge that meets the rectangle decides it
+  pub unmet-met : {m : Bool} → i < to → m ≡ misses (edgeIn room i) r → not m ≡ true
+      → false ≡ unmet r es
+  unmet-met {m} h t n = sym (unmet-next false h (sym (not-true m n) ∙ t))
 
--- Fewer halvings are left to a coarser level that is not passed yet
-pub by-lon-limit : {level left limit : ℕ} {r : Rectangle} → ByLon level left r → limit ≤ level → level - left / 2 ≤ limit
-    → ByLon limit (left - 2 * (level - limit)) r
-by-lon-limit {level} {left} {limit} {r} b most least =
-    let same : level - left / 2 ≡ limit - (left - 2 * (level - limit)) / 2 = omega (arith, b .coarsest) in
+  -- one that misses it leaves it to the others
+  pub unmet-again : {m : Bool} → i < to → m ≡ misses (edgeIn room i) r → not m ≡ false
+      → UnmetFrom es room r to (i + 1)
+  unmet-again {m} h t n = record { rest = unmet-next true h (sym (not-false m n) ∙ t) }
+
+  -- and where none is left, none meets it
+  pub unmet-end : to ≤ i → true ≡ unmet r es
+  unmet-end h = sym (u .rest ∙ ap (unmet r) (kept-none room i to h))
+
+-- The odd count at a point q is the one so far with the turns, on the way from p to q, of the kept edges from place i on
+pub record OddFrom (es : List Edge) (room : List ℕ) (east : Lon) (p q : Point) (to : ℕ) (odd : Bool) (i : ℕ) : Type 0 where
+  pub rest : pointInside q es ≡ differ odd (oddly (turns east p q) (keptIn room i to))
+
+-- At first the one at the half's corner
+pub odd-begin : {es : List Edge} {room : List ℕ} {h : Half} {q : Point} → Sound es room h → Lies (h .ground) q
+    → OddFrom es room (h .east) (h .corner) q (h .to) (h .odd) (h .from)
+odd-begin {es} {room} {h} {q} s in-q =
+    let kept = keptIn room (h .from) (h .to) in
     record {
-      odd = omega (arith, b .odd, b .coarsest);
-      coarsest = omega (arith, b .coarsest);
-      finest = omega (arith, b .finest);
-      lat = subst (λ (n : ℕ). Span n (r .south .0) (r .north .0)) same (b .lat);
-      lon = subst (λ (n : ℕ). Span (n - 1) (r .west .0) (r .east .0)) same (b .lon);
-      north-end = b .north-end;
-      east-end = b .east-end;
+      rest = keeps-turned (s .closed) (s .lies) (lies-within (s .within) in-q) (s .kept .keeps)
+          ∙ ap₂ (λ (b : Bool) (x : Lon). differ b (oddly (turns x (h .corner) q) kept)) (sym (s .odd)) (sym (s .east));
     }
 
-pub by-lat-limit : {level left limit : ℕ} {r : Rectangle} → ByLat level left r → limit ≤ level → level - left / 2 ≤ limit
-    → ByLat limit (left - 2 * (level - limit)) r
-by-lat-limit {level} {left} {limit} {r} b most least =
-    let same : level - left / 2 ≡ limit - (left - 2 * (level - limit)) / 2 = omega (arith, b .coarsest) in
+module _ {es : List Edge} {room : List ℕ} {east : Lon} {p q : Point} {to : ℕ} {odd : Bool} {i : ℕ} (o : OddFrom es room east p q to odd i) where
+  -- One edge more
+  pub odd-again : {turn : Bool} → i < to → turn ≡ turns east p q (edgeIn room i)
+      → OddFrom es room east p q to (not (Bool·beq odd turn)) (i + 1)
+  odd-again {turn} h t =
+      let f = turns east p q in
+      let rest = oddly f (keptIn room (i + 1) to) in
+      record {
+        rest =
+            o .rest ∙ ap (λ (es : List Edge). differ odd (oddly f es)) (kept-more room i to h)
+            ∙ sym (differ-sums .assoc odd (f (edgeIn room i)) rest)
+            ∙ ap (λ (b : Bool). differ b rest) (ap (differ odd) (sym t) ∙ sym (unlike odd turn));
+      }
+
+  -- and where none is left, it is known
+  pub odd-end : to ≤ i → odd ≡ pointInside q es
+  odd-end h =
+      sym
+      (o .rest ∙ ap (λ (es : List Edge). differ odd (oddly (turns east p q) es)) (kept-none room i to h) ∙ differ-comm odd false)
+
+-- The loop of `keep`: the edges put behind the half's, with those of the half still to be seen, are kept for the part
+pub record Moved (es : List Edge) (lent room : List ℕ) (part : Rectangle) (to end i : ℕ) : Type 0 where
+  pub keeps : Keeps es part (keptIn room to end ++ keptIn room i to)
+  pub first : to ≤ end
+  pub last : 4 * end ≤ length room
+  pub same : Same to lent room
+  pub long : length room ≡ length lent
+
+-- What is kept for a half is kept for a part of it
+keeps-part : {es : List Edge} {room : List ℕ} {h : Half} {part : Rectangle} → Sound es room h → Part h part
+    → Keeps es part (keptIn room (h .from) (h .to))
+keeps-part s p = keeps-inner (wide-ordered (p .wide)) (within-then (p .within) (s .within)) (s .kept .keeps)
+
+module _ {es : List Edge} {lent : List ℕ} where
+  -- At first none is moved
+  pub moved-begin : {h : Half} {part : Rectangle} → Sound es lent h → Part h part
+      → Moved es lent lent part (h .to) (h .to) (h .from)
+  moved-begin {h} {part} s p =
+      record {
+        keeps = subst (λ (ks : List Edge). Keeps es part (ks ++ keptIn lent (h .from) (h .to)))
+            (sym (kept-none lent (h .to) (h .to) (omega arith))) (keeps-part s p);
+        first = omega arith;
+        last = s .kept .last;
+        same = λ j k. refl;
+        long = refl;
+      }
+
+  module _ {room : List ℕ} {part : Rectangle} {to end i : ℕ} (m : Moved es lent room part to end i) where
+    -- The first edge still to be seen stands between
+    moved-next : i < to
+        → Keeps es part (keptIn room to end ++ (edgeIn room i ∷ keptIn room (i + 1) to))
+    moved-next h =
+        subst (λ (ks : List Edge). Keeps es part (keptIn room to end ++ ks)) (kept-more room i to h)
+        (m .keeps)
+
+    -- An edge that is found clear of the part is left out
+    pub moved-clear : {clear : Bool} {e : Edge} → i < to → (clear ≡ true → misses e part ≡ true) → e ≡ edgeIn room i → not clear ≡ false
+        → Moved es lent room part to end (i + 1)
+    moved-clear {clear} h t is n =
+        let missed = subst (λ (e : Edge). misses e part ≡ true) is (t (not-false clear n)) in
+        record {
+          keeps = keeps-drop (keptIn room to end) (edgeIn room i) (keptIn room (i + 1) to) missed (moved-next h);
+          first = m .first;
+          last = m .last;
+          same = m .same;
+          long = m .long;
+        }
+
+    -- Any other is put behind the others
+    pub moved-added : {e : Edge} → i < to → end < length room / 4 → e ≡ edgeIn room i
+        → Moved es lent (withEdge room end e) part to (end + 1) (i + 1)
+    moved-added {e} h k is =
+        record {
+          keeps = subst (Keeps es part)
+              (sym (ap₂ _++_ behind before ∙ append-assoc (keptIn room to end) (edgeIn room i ∷ []) (keptIn room (i + 1) to)))
+              (moved-next h);
+          first = omega (arith, m .first);
+          last = omega (arith, with-length room end e);
+          same = λ j l. edge-before room end e k j (omega (arith, m .first)) ∙ m .same j l;
+          long = with-length room end e ∙ m .long;
+        }
+      where
+        later : List ℕ
+        later = withEdge room end e
+
+        stays : Same end room later
+        stays = edge-before room end e k
+
+        before : keptIn later (i + 1) to ≡ keptIn room (i + 1) to
+        before = kept-same room later stays (i + 1) to (m .first)
+
+        behind : keptIn later to (end + 1) ≡ keptIn room to end ++ (edgeIn room i ∷ [])
+        behind =
+            let count : end + 1 - to ≡ suc (end - to) = omega (arith, m .first) in
+            let last : to + (end - to) ≡ end = omega (arith, m .first) in
+            ap (λ (n : ℕ). map (edgeIn later) (countUp n to)) count
+            ∙ ap (map (edgeIn later)) (places-last (end - to) to)
+            ∙ map-append (edgeIn later) (countUp (end - to) to) ((to + (end - to)) ∷ [])
+            ∙ ap₂ (λ (es : List Edge) (e : Edge). es ++ (e ∷ [])) (kept-same room later stays to end (omega arith))
+            (ap (edgeIn later) last ∙ edge-there room end e k ∙ is)
+
+    -- At the end those behind the others are kept
+    pub moved-end : to ≤ i → KeptFor es room part to end
+    moved-end h =
+        record {
+          keeps = subst (Keeps es part)
+              (ap (λ (es : List Edge). keptIn room to end ++ es) (kept-none room i to h) ∙ append-nil (keptIn room to end))
+              (m .keeps);
+          first = m .first;
+          last = m .last;
+        }
+
+  -- with the room and the end by other names
+  pub moved-as : {room named : List ℕ} {part : Rectangle} {to end last i : ℕ} → named ≡ room → last ≡ end
+      → Moved es lent room part to end i → Moved es lent named part to last i
+  moved-as {room} {named} {part} {to} {end} {last} {i} e f m =
+      subst (λ (n : ℕ). Moved es lent named part to n i) (sym f)
+      (subst (λ (l : List ℕ). Moved es lent l part to end i) (sym e) m)
+
+  -- Where the room ends, the half's own edges are kept
+  pub moved-full : {h : Half} {part : Rectangle} {room : List ℕ} {end i : ℕ} → Sound es lent h → Part h part
+      → Moved es lent room part (h .to) end i → KeptFor es room part (h .from) (h .to)
+  moved-full {h} {part} {room} {end} {i} s p m =
+      let same : keptIn room (h .from) (h .to) ≡ keptIn lent (h .from) (h .to) =
+      kept-same lent room (m .same) (h .from) (h .to) (omega arith) in
+      record {
+        keeps = subst (Keeps es part) (sym same) (keeps-part s p);
+        first = s .kept .first;
+        last = omega (arith, m .first, m .last);
+      }
+
+-- What is known of a half stays so in a later room with the same edges before its last
+pub sound-same : {es : List Edge} {room later : List ℕ} {h : Half} → Sound es room h → Same (h .to) room later → length later ≡ length room
+    → Sound es later h
+sound-same {es} {room} {later} {h} s same long =
     record {
-      even = omega (arith, b .even, b .coarsest);
-      coarsest = omega (arith, b .coarsest);
-      finest = omega (arith, b .finest);
-      lat = subst (λ (n : ℕ). Span n (r .south .0) (r .north .0)) same (b .lat);
-      lon = subst (λ (n : ℕ). Span n (r .west .0) (r .east .0)) same (b .lon);
-      north-end = b .north-end;
-      east-end = b .east-end;
+      closed = s .closed;
+      wide = s .wide;
+      around = s .around;
+      within = s .within;
+      lies = s .lies;
+      east = s .east;
+      kept = record {
+        keeps = subst (Keeps es (s .around)) (sym (kept-same room later same (h .from) (h .to) (omega arith))) (s .kept .keeps);
+        first = s .kept .first;
+        last = subst (λ (n : ℕ). 4 * h .to ≤ n) (sym long) (s .kept .last);
+      };
+      odd = s .odd;
     }
 
--- none to the level of the cell that the ground is itself
-pub lat-cell : {level left : ℕ} {r : Rectangle} → ByLat level left r → ByLat (level - left / 2) 0 r
-lat-cell {level} {left} {r} b =
-    let none : left - 2 * (level - (level - left / 2)) ≡ 0 = omega (arith, b .even, b .coarsest) in
-    subst (λ (n : ℕ). ByLat (level - left / 2) n r) none (by-lat-limit b (omega arith) (omega arith))
+-- A part of a half that shares its edges
+pub sound-shared : {es : List Edge} {room : List ℕ} {h : Half} {part : Rectangle} → Sound es room h → Part h part
+    → Sound es room (record { ground = part; corner = h .corner; odd = h .odd; east = h .east; from = h .from; to = h .to })
+sound-shared s p =
+    record {
+      closed = s .closed;
+      wide = p .wide;
+      around = s .around;
+      within = within-then (p .within) (s .within);
+      lies = s .lies;
+      east = s .east;
+      kept = s .kept;
+      odd = s .odd;
+    }
 
-module _ (corners : List Point) {level left : ℕ} {r : Rectangle} (b : ByLat level left r) (some : 0 < left) where
-  -- Ground that is no inside cell itself has the answer of the finer levels
-  pub lat-below : (a : Choice) → Best corners (level - left / 2) (level - left / 2) r Nowhere → Best corners (level - (left - 1) / 2) level r a
-      → Best corners (level - left / 2) level r a
-  lat-below a none best =
-      let finer : level - (left - 1) / 2 ≡ level - left / 2 + 1 = omega (arith, b .even, b .coarsest) in
-      best-below level r a none (subst (λ (n : ℕ). Best corners n level r a) finer best)
+-- and one with edges of its own
+pub sound-sorted : {es : List Edge} {room : List ℕ} {part : Rectangle} {corner : Point} {odd : Bool} {from to : ℕ} → Closed es → Wide part
+    → corner ≡ southWest part → odd ≡ pointInside corner es → KeptFor es room part from to
+    → Sound es room (record { ground = part; corner = corner; odd = odd; east = part .east; from = from; to = to })
+sound-sorted {part = part} closed wide is odd kept =
+    record {
+      closed = closed;
+      wide = wide;
+      around = part;
+      within = within-self part;
+      lies = subst (Lies part) (sym is) (corner-lies wide);
+      east = refl;
+      kept = kept;
+      odd = odd;
+    }
 
-  -- North of what is found only levels from the next on, and up to the level of that, are left
-  pub lat-limit : {at : Lat} → LatHalves level left r at → (first : Choice) {limit : ℕ} → Best corners (level - (left - 1) / 2) level (southOf r at) first
-      → limit ≡ levelOf first level → (level - (left - 1) / 2 ≤ limit) × (limit ≤ level)
-  lat-limit {at} h first low is =
-      let between = level-between corners (level - (left - 1) / 2) level (southOf r at) level first low (omega arith) (omega arith) in
-      (omega (arith, between .0), omega (arith, between .1))
+-- Edges that stay the same up to a place, and then up to a later one
+pub same-then : (room later latest : List ℕ) {to last : ℕ} → (to ≤ last) × Same to room later → Same last later latest → Same to room latest
+same-then room later latest first then j h = then j (omega (arith, first .0)) ∙ first .1 j h
 
-  -- and that of its halves by latitude
-  pub lat-joined : {at : Lat} → LatHalves level left r at → (first second : Choice) {limit : ℕ}
-      → Best corners (level - left / 2) (level - left / 2) r Nowhere → Best corners (level - (left - 1) / 2) level (southOf r at) first
-      → limit ≡ levelOf first level → level - (left - 1) / 2 ≤ limit → limit ≤ level
-      → Best corners (limit - (left - 1 - 2 * (level - limit)) / 2) limit (northOf r at) second
-      → Best corners (level - left / 2) level r (earlier first second)
-  lat-joined {at} h first second {limit} none low is least most high =
-      let from : limit - (left - 1 - 2 * (level - limit)) / 2 ≡ level - (left - 1) / 2 = omega (arith, b .even, b .coarsest) in
-      lat-below (earlier first second) none
-      (best-lat corners (level - (left - 1) / 2) level (omega (arith, b .coarsest)) r at (h .side)
-      (omega (arith, h .between .0)) (omega (arith, h .between .1)) first second low
-      (subst (λ (n : ℕ). Best corners (level - (left - 1) / 2) n (northOf r at) second) is
-      (subst (λ (n : ℕ). Best corners n limit (northOf r at) second) from high)))
-
--- East of what is found only levels before the level of that are left
-pub lon-limit : (corners : List Point) {level left : ℕ} {r : Rectangle} → ByLon level left r → {at : Lon} → LonHalves level left r at → (first : Choice)
-    → Best corners (level - left / 2) level (westOf r at) first → (1 ≤ levelOf first (level + 1)) × (levelOf first (level + 1) - 1 ≤ level)
-lon-limit corners {level} {left} {r} b {at} h first low =
-    let between = level-between corners (level - left / 2) level (westOf r at) (level + 1) first low (omega arith) (omega arith) in
-    (omega (arith, between .0, b .coarsest), omega (arith, between .1))
-
-module _ (corners : List Point) {level left : ℕ} {r : Rectangle} (b : ByLon level left r) {at : Lon} (h : LonHalves level left r at)
-    (first : Choice) {limit : ℕ} (low : Best corners (level - left / 2) level (westOf r at) first) (is : limit ≡ levelOf first (level + 1) - 1) where
-  -- Ground has the answer of its halves by longitude
-  pub lon-joined : (second : Choice) → level - left / 2 ≤ limit → limit ≤ level
-      → Best corners (limit - (left - 1 - 2 * (level - limit)) / 2) limit (eastOf r at) second
-      → Best corners (level - left / 2) level r (earlier first second)
-  lon-joined second least most high =
-      let from : limit - (left - 1 - 2 * (level - limit)) / 2 ≡ level - left / 2 = omega (arith, b .odd, b .coarsest) in
-      best-lon corners (level - left / 2) level (omega (arith, b .coarsest)) r at (h .side)
-      (omega (arith, h .between .0)) (omega (arith, h .between .1)) first second low
-      (subst (λ (n : ℕ). Best corners (level - left / 2) n (eastOf r at) second) is
-      (subst (λ (n : ℕ). Best corners n limit (eastOf r at) second) from high))
-
-  -- or of the western half alone, where nothing coarser is left
-  pub lon-stopped : limit < level - left / 2 → Best corners (level - left / 2) level r first
-  lon-stopped less =
-      best-west corners (level - left / 2) level (omega (arith, b .coarsest)) r at (h .side)
-      (omega (arith, h .between .0)) (omega (arith, h .between .1)) first low (omega arith)
+-- and so where they stayed the same before
+pub then-same : (room earlier later latest : List ℕ) {to last : ℕ} → Same to room earlier → (to ≤ last) × Same to earlier later
+    → Same last later latest → Same to room latest
+then-same room earlier later latest before first then j h = same-then earlier later latest first then j h ∙ before j h

@@ -1,6 +1,7 @@
-pub mod Kept
-pub mod KeptLaws
-pub mod Best
-pub mod Asked
+pub mod Half
 pub mod HalfLaws
+pub mod Best
+pub mod Descent
+pub mod DescentLaws
+pub mod PassingLaws
 pub mod SearchLaws

@@ -3,49 +3,20 @@
 // a cell is found, only cells that would come before it are looked for.
 ghost use Prim.Native.Nat.{_-_, _/_};
 ghost use mathlib.Core.Path.{_≡_};
-ghost use Rattle.boundary.specs.Corners.{cornersOf};
-ghost use Rattle.quick.specs.Kept.{Same, Sound};
-ghost use Rattle.quick.specs.Best.{Best, passesOver, sooner as Best·sooner, earlier as Best·earlier, levelOf};
-ghost use Rattle.quick.specs.Asked.{ByLat, ByLon};
+ghost use Rattle.boundary.specs.Listed.{edgesIn};
+ghost use Rattle.quick.specs.Half.{Same};
+ghost use Rattle.quick.specs.Best.{Best, sooner as Best·sooner, earlier as Best·earlier, levelOf};
+ghost use Rattle.quick.specs.Descent.{ByLat, ByLon};
 use crate::half::Half;
-use crate::half::east_of;
-use crate::half::north_of;
-use crate::half::south_of;
-use crate::half::west_of;
-use crate::halves::lat_split;
-use crate::halves::lon_split;
-use crate::halves::other_corner;
-use crate::halves::same_corner;
-use crate::kept::unmet;
+use crate::halves::east_half;
+use crate::halves::north_half;
+use crate::halves::south_half;
+use crate::halves::west_half;
+use crate::passing::Tested;
+use crate::passing::test;
+use chosen::Choice;
 use ground::Cell;
-use unit::Choice;
-
-// The test for passing over: no edge meets the half, and its centre is not inside, where the count is
-// what it is at the south-west corner.
-fn passed_over(numbers: &[u32], room: &[u32], half: Half) -> bool
-    requires { ⌜ Sound (now numbers) (now room) half ⌝ }
-    ensures { λ p. ⌜ p ≡ passesOver (cornersOf (now (numbers .entry))) (half .ground) ⌝ }
-{
-    if half.odd {
-        return false;
-    }
-    unmet(numbers, room, half)
-}
-
-// The cell of a level that a half is, if it is inside.
-fn tried(numbers: &[u32], room: &[u32], half: Half, level: u32) -> Choice
-    requires { ⌜ Sound (now numbers) (now room) half ⌝ }
-    requires { ⌜ ByLat level 0 (half .ground) ⌝ }
-    ensures { λ c. ⌜ Best (cornersOf (now (numbers .entry))) level level (half .ground) c ⌝ }
-{
-    if half.odd && unmet(numbers, room, half) {
-        let ground = half.ground;
-        let west = ground.west;
-        let south = ground.south;
-        return Choice::At(Cell { level, west, south });
-    }
-    Choice::Nowhere
-}
+use ground::Rectangle;
 
 // Whether a cell is of a lower level number than another, or of the same and further west.
 fn sooner(d: Cell, c: Cell) -> bool
@@ -88,69 +59,69 @@ pub(crate) fn level_of(found: Choice, none: u32) -> u32
 // Halves by latitude, and goes on by longitude. North of what is found a cell comes earlier only where
 // it is of no finer level.
 pub(crate) fn by_lat(
-    numbers: &[u32],
+    edges: &[u32],
     room: &mut [u32],
     half: Half,
+    r: Rectangle,
     finest: u32,
     left: u32,
 ) -> Choice
-    requires { ⌜ Sound (now numbers) (now room) half ⌝ }
-    requires { ⌜ ByLat finest left (half .ground) ⌝ }
-    ensures { λ c. ⌜ Best (cornersOf (now (numbers .entry))) (finest - left / 2) finest (half .ground) c ⌝ }
+    requires { ⌜ ByLat (edgesIn (now edges)) (now room) half r finest left ⌝ }
+    ensures { λ c. ⌜ Best (edgesIn (now (edges .entry))) (finest - left / 2) finest (half .ground) c ⌝ }
     ensures { λ _. ⌜ Same (half .to) (now (room .entry)) (now (room .exit)) ⌝ }
 {
-    if passed_over(numbers, room, half) {
+    let said = test(edges, room, half, r, finest);
+    if let Tested::PassedOver = said {
         return Choice::Nowhere;
     }
-    let here = tried(numbers, room, half, finest - left / 2);
-    if let Choice::At(c) = here {
-        return Choice::At(c);
+    let ground = half.ground;
+    let west = ground.west;
+    let south = ground.south;
+    let north = ground.north;
+    let level = finest - left / 2;
+    if let Tested::Inside = said {
+        return Choice::At(Cell { level, west, south });
     }
     if left == 0 {
         return Choice::Nowhere;
     }
-    let ground = half.ground;
-    let north = ground.north;
-    let at = lat_split(ground, finest, left);
+    let at = ground::lat_split(level + 1, ground);
     if at.0 == north.0 {
-        return by_lon(numbers, room, half, finest, left - 1);
+        return by_lon(edges, room, half, r, finest, left - 1);
     }
-    let low = same_corner(numbers, room, half, south_of(ground, at));
-    let first = by_lon(numbers, room, low, finest, left - 1);
+    let low = south_half(edges, room, half, at, left - 1);
+    let first = by_lon(edges, room, low, r, finest, left - 1);
     let limit = level_of(first, finest);
-    let high = other_corner(numbers, room, half, north_of(ground, at));
-    earlier(
-        first,
-        by_lon(numbers, room, high, limit, left - 1 - 2 * (finest - limit)),
-    )
+    let fewer = left - 1 - 2 * (finest - limit);
+    let high = north_half(edges, room, half, at, fewer);
+    earlier(first, by_lon(edges, room, high, r, limit, fewer))
 }
 
 // Halves by longitude, and goes on by latitude. East of what is found a cell comes earlier only where it
 // is of a coarser level.
-fn by_lon(numbers: &[u32], room: &mut [u32], half: Half, finest: u32, left: u32) -> Choice
-    requires { ⌜ Sound (now numbers) (now room) half ⌝ }
-    requires { ⌜ ByLon finest left (half .ground) ⌝ }
-    ensures { λ c. ⌜ Best (cornersOf (now (numbers .entry))) (finest - left / 2) finest (half .ground) c ⌝ }
+fn by_lon(edges: &[u32], room: &mut [u32], half: Half, r: Rectangle, finest: u32, left: u32) -> Choice
+    requires { ⌜ ByLon (edgesIn (now edges)) (now room) half r finest left ⌝ }
+    ensures { λ c. ⌜ Best (edgesIn (now (edges .entry))) (finest - left / 2) finest (half .ground) c ⌝ }
     ensures { λ _. ⌜ Same (half .to) (now (room .entry)) (now (room .exit)) ⌝ }
 {
-    if passed_over(numbers, room, half) {
+    let said = test(edges, room, half, r, finest);
+    if let Tested::PassedOver = said {
         return Choice::Nowhere;
     }
     let ground = half.ground;
     let east = ground.east;
-    let at = lon_split(ground, finest, left);
+    let level = finest - left / 2;
+    let at = ground::lon_split(level, ground);
     if at.0 == east.0 {
-        return by_lat(numbers, room, half, finest, left - 1);
+        return by_lat(edges, room, half, r, finest, left - 1);
     }
-    let low = same_corner(numbers, room, half, west_of(ground, at));
-    let first = by_lat(numbers, room, low, finest, left - 1);
+    let low = west_half(edges, room, half, at, left - 1);
+    let first = by_lat(edges, room, low, r, finest, left - 1);
     let limit = level_of(first, finest + 1) - 1;
-    if limit < finest - left / 2 {
+    if limit < level {
         return first;
     }
-    let high = other_corner(numbers, room, half, east_of(ground, at));
-    earlier(
-        first,
-        by_lat(numbers, room, high, limit, left - 1 - 2 * (finest - limit)),
-    )
+    let fewer = left - 1 - 2 * (finest - limit);
+    let high = east_half(edges, room, half, at, fewer);
+    earlier(first, by_lat(edges, room, high, r, limit, fewer))
 }

@@ -1,20 +1,17 @@
-// The edges that are kept for a half, in a lent room: an edge that misses a half misses all in it,
-// and is left out on the way down. An edge stands there as four numbers: latitude and longitude of
-// its start, then of its end.
-ghost use Prim.Native.Nat.{_+_, _*_, _/_, _≤_, _<_};
+// The edges that are kept for a half, in a lent room: an edge that misses a half misses all in it, and may
+// be left out on the way down. An edge stands there as in a list of edges.
+ghost use Prim.Native.Nat.{_*_, _/_, _≤_, _<_};
 ghost use mathlib.Core.Path.{_≡_};
 ghost use mathlib.Core.Bool.{true};
 ghost use lib.ListN.{length};
-ghost use Rattle.boundary.specs.Boundary.{edge, edgesOf, misses, unmet as Boundary·unmet};
-ghost use Rattle.boundary.specs.Corners.{cornersOf, cornerAt};
-ghost use Rattle.boundary.specs.Parity.{Lies};
-ghost use Rattle.boundary.specs.Keeping.{nextPlace};
-ghost use Rattle.quick.specs.Kept.{edgeIn, withCorner, Same, Added, southWest, oddAt, Placed, Sound, Part, Listed};
+ghost use Rattle.ground.specs.Rectangles.{Lies};
+ghost use Rattle.edge.specs.Edge.{edge, misses};
+ghost use Rattle.boundary.specs.Boundary.{pointInside, unmet as Boundary·unmet};
+ghost use Rattle.boundary.specs.Listed.{edgesIn};
+ghost use Rattle.quick.specs.Half.{Same, KeptFor, Sound, Part, AllIn};
 use crate::half::Half;
-use crate::half::corner_of;
-use boundary::corner;
-use ground::Lat;
-use ground::Lon;
+use boundary::put_edge;
+use corners::corner;
 use ground::Point;
 use ground::Rectangle;
 
@@ -24,90 +21,29 @@ pub struct Places {
     pub to: usize,
 }
 
-// The corner at a place of the room, where the start and the end of each edge stand in turn.
-fn corner_at(room: &[u32], i: usize) -> Point
-    requires { ⌜ 2 * i + 1 < length (now room) ⌝ }
-    ensures { λ p. ⌜ p ≡ cornerAt (now (room .entry)) i ⌝ }
+// Puts all edges of a list at the room's start.
+pub(crate) fn keep_all(edges: &[u32], room: &mut [u32])
+    requires { ⌜ length (now edges) / 4 ≤ length (now room) / 4 ⌝ }
+    ensures { λ _. ⌜ AllIn (now (edges .entry)) (now (room .exit)) ⌝ }
 {
-    Point {
-        lat: Lat(room[2 * i]),
-        lon: Lon(room[2 * i + 1]),
-    }
-}
-
-// Puts a corner at such a place.
-fn put_corner(room: &mut [u32], i: usize, p: Point)
-    requires { ⌜ 2 * i + 1 < length (now room) ⌝ }
-    ensures { λ _. ⌜ now (room .exit) ≡ withCorner (now (room .entry)) i p ⌝ }
-{
-    let lat = p.lat;
-    let lon = p.lon;
-    room[2 * i] = lat.0;
-    room[2 * i + 1] = lon.0;
-}
-
-// The start of the edge at a place of the room.
-fn start_at(room: &[u32], place: usize) -> Point
-    requires { ⌜ 4 * place + 3 < length (now room) ⌝ }
-    ensures { λ p. ⌜ p ≡ edgeIn (now (room .entry)) place .start ⌝ }
-{
-    corner_at(room, 2 * place)
-}
-
-// Its end.
-fn end_at(room: &[u32], place: usize) -> Point
-    requires { ⌜ 4 * place + 3 < length (now room) ⌝ }
-    ensures { λ p. ⌜ p ≡ edgeIn (now (room .entry)) place .end ⌝ }
-{
-    corner_at(room, 2 * place + 1)
-}
-
-// Puts an edge at a place of the room; those before it stay.
-fn put(room: &mut [u32], place: usize, a: Point, b: Point)
-    requires { ⌜ 4 * place + 3 < length (now room) ⌝ }
-    ensures { λ _. ⌜ Added place (edge a b) (now (room .entry)) (now (room .exit)) ⌝ }
-{
-    put_corner(room, 2 * place, a);
-    put_corner(room, 2 * place + 1, b);
-}
-
-// The place after a place of a boundary: after the last comes the first.
-fn next(numbers: &[u32], place: usize) -> usize
-    requires { ⌜ place < length (now numbers) / 2 ⌝ }
-    ensures { λ r. ⌜ r ≡ nextPlace (now (numbers .entry)) place ⌝ }
-{
-    let after = place + 1;
-    if after == numbers.len() / 2 { 0 } else { after }
-}
-
-// Puts all edges at the room's start.
-pub(crate) fn list_all(numbers: &[u32], room: &mut [u32])
-    requires { ⌜ 4 * (length (now numbers) / 2) ≤ length (now room) ⌝ }
-    ensures { λ _. ⌜ Listed (now (numbers .entry)) (now (room .exit)) ⌝ }
-{
-    let count = numbers.len() / 2;
+    let count = edges.len() / 4;
     let mut i = 0;
     while i < count {
-        put(
-            room,
-            i,
-            corner(numbers, i),
-            corner(numbers, next(numbers, i)),
-        );
+        put_edge(room, i, corner(edges, 2 * i), corner(edges, 2 * i + 1));
         i += 1;
     }
 }
 
 // Whether no edge meets a half.
-pub(crate) fn unmet(numbers: &[u32], room: &[u32], half: Half) -> bool
-    requires { ⌜ Sound (now numbers) (now room) half ⌝ }
-    ensures { λ m. ⌜ m ≡ Boundary·unmet (half .ground) (edgesOf (cornersOf (now (numbers .entry)))) ⌝ }
+pub(crate) fn unmet(edges: &[u32], room: &[u32], half: Half) -> bool
+    requires { ⌜ Sound (edgesIn (now edges)) (now room) half ⌝ }
+    ensures { λ m. ⌜ m ≡ Boundary·unmet (half .ground) (edgesIn (now (edges .entry))) ⌝ }
 {
     let ground = half.ground;
     let to = half.to;
     let mut i = half.from;
     while i < to {
-        if !boundary::misses(start_at(room, i), end_at(room, i), ground) {
+        if !edge::misses(corner(room, 2 * i), corner(room, 2 * i + 1), ground) {
             return false;
         }
         i += 1;
@@ -115,27 +51,26 @@ pub(crate) fn unmet(numbers: &[u32], room: &[u32], half: Half) -> bool
     true
 }
 
-// Whether the count is odd at another point of a half.
-pub(crate) fn odd_at(numbers: &[u32], room: &[u32], half: Half, q: Point) -> bool
-    requires { ⌜ Sound (now numbers) (now room) half ⌝ }
+// Whether the count is odd at a point of a half: the kept edges alone turn it.
+pub(crate) fn odd_at(edges: &[u32], room: &[u32], half: Half, q: Point) -> bool
+    requires { ⌜ Sound (edgesIn (now edges)) (now room) half ⌝ }
     requires { ⌜ Lies (half .ground) q ⌝ }
-    ensures { λ m. ⌜ m ≡ oddAt (now (numbers .entry)) q ⌝ }
+    ensures { λ m. ⌜ m ≡ pointInside q (edgesIn (now (edges .entry))) ⌝ }
 {
-    let ground = half.ground;
-    let east = ground.east;
-    let p = corner_of(ground);
+    let p = half.corner;
+    let east = half.east;
     let to = half.to;
     let mut odd = half.odd;
     let mut i = half.from;
     while i < to {
-        odd = odd != boundary::turns(p, q, east, start_at(room, i), end_at(room, i));
+        odd = odd != edge::turns(p, q, east, corner(room, 2 * i), corner(room, 2 * i + 1));
         i += 1;
     }
     odd
 }
 
-// Whether a point lies strictly within a rectangle. It only decides what a search costs, and nothing
-// is promised of it.
+// Whether a point lies strictly within a rectangle. It only decides what a search costs, and nothing is
+// promised of it.
 fn within(p: Point, r: Rectangle) -> bool {
     let lat = p.lat;
     let lon = p.lon;
@@ -158,32 +93,29 @@ fn clear(a: Point, b: Point, r: Rectangle) -> bool
     if within(b, r) {
         return false;
     }
-    boundary::beyond(a, b, r) || boundary::aside(a, b, r)
+    edge::beyond(a, b, r) || edge::aside(a, b, r)
 }
 
-// Those of a half's edges that may not be left out for a part of it, put behind them; all of them
-// where the room ends, and where they are but two, which cost less to ask than to sort.
-fn keep(numbers: &[u32], room: &mut [u32], half: Half, part: Rectangle) -> Places
-    requires { ⌜ Sound (now numbers) (now room) half ⌝ }
+// Those of a half's edges that may not be left out for a part of it, put behind them; all of them where
+// the room ends.
+fn keep(edges: &[u32], room: &mut [u32], half: Half, part: Rectangle) -> Places
+    requires { ⌜ Sound (edgesIn (now edges)) (now room) half ⌝ }
     requires { ⌜ Part half part ⌝ }
-    ensures { λ p. ⌜ Placed (now (numbers .entry)) (now (room .exit)) part (p .from) (p .to) ⌝ }
+    ensures { λ p. ⌜ KeptFor (edgesIn (now (edges .entry))) (now (room .exit)) part (p .from) (p .to) ⌝ }
     ensures { λ p. ⌜ (half .to ≤ p .to) × Same (half .to) (now (room .entry)) (now (room .exit)) ⌝ }
 {
     let from = half.from;
     let to = half.to;
-    if to - from <= 2 {
-        return Places { from, to };
-    }
     let mut end = to;
     let mut i = from;
     while i < to {
-        let a = start_at(room, i);
-        let b = end_at(room, i);
+        let a = corner(room, 2 * i);
+        let b = corner(room, 2 * i + 1);
         if !clear(a, b, part) {
             if room.len() / 4 <= end {
                 return Places { from, to };
             }
-            put(room, end, a, b);
+            put_edge(room, end, a, b);
             end += 1;
         }
         i += 1;
@@ -191,25 +123,48 @@ fn keep(numbers: &[u32], room: &mut [u32], half: Half, part: Rectangle) -> Place
     Places { from: to, to: end }
 }
 
-// A part of a half, with its edges and the count at its south-west corner.
-pub(crate) fn part_of(
-    numbers: &[u32],
-    room: &mut [u32],
-    half: Half,
-    part: Rectangle,
-    odd: bool,
-) -> Half
-    requires { ⌜ Sound (now numbers) (now room) half ⌝ }
+// A part of a half with edges of its own, and the count at its own corner.
+fn sorted(edges: &[u32], room: &mut [u32], half: Half, part: Rectangle) -> Half
+    requires { ⌜ Sound (edgesIn (now edges)) (now room) half ⌝ }
     requires { ⌜ Part half part ⌝ }
-    requires { ⌜ odd ≡ oddAt (now numbers) (southWest part) ⌝ }
-    ensures { λ h. ⌜ (h .ground ≡ part) × Sound (now (numbers .entry)) (now (room .exit)) h ⌝ }
+    ensures { λ h. ⌜ (h .ground ≡ part) × Sound (edgesIn (now (edges .entry))) (now (room .exit)) h ⌝ }
     ensures { λ h. ⌜ (half .to ≤ h .to) × Same (half .to) (now (room .entry)) (now (room .exit)) ⌝ }
 {
-    let places = keep(numbers, room, half, part);
+    let corner = ground::south_west(part);
+    let odd = odd_at(edges, room, half, corner);
+    let places = keep(edges, room, half, part);
+    let east = part.east;
     Half {
         ground: part,
+        corner,
         odd,
+        east,
         from: places.from,
         to: places.to,
     }
+}
+
+// A part of a half. With few halvings left, or few edges, it shares the half's edges: asking them again costs
+// less than sorting them.
+pub(crate) fn part_of(edges: &[u32], room: &mut [u32], half: Half, part: Rectangle, left: u32) -> Half
+    requires { ⌜ Sound (edgesIn (now edges)) (now room) half ⌝ }
+    requires { ⌜ Part half part ⌝ }
+    ensures { λ h. ⌜ (h .ground ≡ part) × Sound (edgesIn (now (edges .entry))) (now (room .exit)) h ⌝ }
+    ensures { λ h. ⌜ (half .to ≤ h .to) × Same (half .to) (now (room .entry)) (now (room .exit)) ⌝ }
+{
+    let corner = half.corner;
+    let east = half.east;
+    let from = half.from;
+    let to = half.to;
+    if left < 3 || to - from < 3 {
+        return Half {
+            ground: part,
+            corner,
+            odd: half.odd,
+            east,
+            from,
+            to,
+        };
+    }
+    sorted(edges, room, half, part)
 }

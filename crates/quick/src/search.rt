@@ -1,28 +1,31 @@
-// The search for the chosen cell, from the first level whose cells can fit the extents. Near levels, of
-// which few cells lie over the extents, go cell by cell, in turn; the others some together, by halving
-// the cells of a coarser level that lie over the extents.
-ghost use Prim.Native.Nat.{_*_, _/_, _≤_, _<_};
+// The search for the chosen cell, from the first level whose cells can fit the extents: each level, or some
+// together, by halving the cells of a coarser level that lie over the extents.
+ghost use Prim.Native.Nat.{_+_, _/_, _≤_, _<_};
 ghost use mathlib.Core.Path.{_≡_};
 ghost use lib.ListN.{length};
-ghost use Rattle.boundary.specs.Corners.{cornersOf};
-ghost use Rattle.unit.specs.Chosen.{choose};
-ghost use Rattle.unit.specs.Choosing.{InRange, Over};
+ghost use Rattle.ground.specs.Levels.{coarsestLevel, finestLevel, IsLevel};
+ghost use Rattle.ground.specs.Halves.{Ground};
+ghost use Rattle.boundary.specs.Listed.{edgesIn};
+ghost use Rattle.chosen.specs.Chosen.{choose, Over};
+ghost use Rattle.quick.specs.Half.{AllIn};
 ghost use Rattle.quick.specs.Best.{Best};
-ghost use Rattle.quick.specs.Asked.{Levels, Ground, Column, column, everywhere, tooWide, UnfitBefore, Fits, Ready, StillListed, NoneInside, Nearly};
+ghost use Rattle.quick.specs.Descent.{Levels, Column, column, everywhere, tooWide, TooWideBefore};
 use crate::half::Half;
-use crate::half::corner_of;
 use crate::halving::by_lat;
 use crate::halving::earlier;
 use crate::halving::level_of;
-use crate::kept::list_all;
-use ground::Cell;
+use crate::kept::keep_all;
+use chosen::Choice;
+use ground::COARSEST;
+use ground::FINEST;
+use ground::LON_END;
 use ground::Lat;
 use ground::Lon;
+use ground::Point;
 use ground::Rectangle;
-use unit::Choice;
 
 // Whether cells of a level are too wide for the extents.
-fn unfit(r: Rectangle, level: u32) -> bool
+fn too_wide(r: Rectangle, level: u32) -> bool
     ensures { λ u. ⌜ u ≡ tooWide r level ⌝ }
 {
     let west = r.west;
@@ -33,14 +36,14 @@ fn unfit(r: Rectangle, level: u32) -> bool
     ground::apart(west.0, east.0) < least || ground::apart(south.0, north.0) < least
 }
 
-// The coarsest level whose cells can fit the extents, or 28.
+// The coarsest level whose cells can fit the extents, or the one after the finest.
 fn first_level(r: Rectangle) -> u32
-    ensures { λ l. ⌜ (9 ≤ l) × (l ≤ 28) ⌝ }
-    ensures { λ l. ⌜ UnfitBefore r l ⌝ }
+    ensures { λ l. ⌜ (coarsestLevel ≤ l) × (l ≤ finestLevel + 1) ⌝ }
+    ensures { λ l. ⌜ TooWideBefore r l ⌝ }
 {
-    let mut level = 9;
-    while level < 28 {
-        if !unfit(r, level) {
+    let mut level = COARSEST;
+    while level <= FINEST {
+        if !too_wide(r, level) {
             return level;
         }
         level += 1;
@@ -64,11 +67,11 @@ fn short(r: Rectangle, level: u32, cells: u32) -> bool
 // A level to start halving from: the finest, up to the one that is searched, whose cells are not
 // smaller than the extents.
 fn top_of(r: Rectangle, level: u32) -> u32
-    requires { ⌜ 9 ≤ level ⌝ }
-    ensures { λ t. ⌜ (9 ≤ t) × (t ≤ level) ⌝ }
+    requires { ⌜ coarsestLevel ≤ level ⌝ }
+    ensures { λ t. ⌜ (coarsestLevel ≤ t) × (t ≤ level) ⌝ }
 {
     let mut top = level;
-    while 9 < top {
+    while COARSEST < top {
         if !short(r, top, 1) {
             return top;
         }
@@ -77,79 +80,42 @@ fn top_of(r: Rectangle, level: u32) -> u32
     top
 }
 
-// Whether a cell's ground lies within the extents, as that of an inside cell does.
-fn fits(cell: Rectangle, r: Rectangle) -> bool
-    ensures { λ f. ⌜ Fits cell r f ⌝ }
-{
-    let cell_west = cell.west;
-    let cell_east = cell.east;
-    let cell_south = cell.south;
-    let cell_north = cell.north;
-    let west = r.west;
-    let east = r.east;
-    let south = r.south;
-    let north = r.north;
-    if cell_west.0 < west.0 {
-        return false;
-    }
-    if east.0 < cell_east.0 {
-        return false;
-    }
-    if cell_south.0 < south.0 {
-        return false;
-    }
-    cell_north.0 <= north.0
-}
-
-// A cell of the level itself, if it is inside.
-fn at_once(numbers: &[u32], r: Rectangle, cell: Rectangle, level: u32) -> Choice
-    requires { ⌜ Over (cornersOf (now numbers)) r ⌝ }
-    requires { ⌜ (9 ≤ level) × (level ≤ 27) ⌝ }
-    requires { ⌜ Ground level cell ⌝ }
-    ensures { λ c. ⌜ Best (cornersOf (now (numbers .entry))) level level cell c ⌝ }
-{
-    if !fits(cell, r) {
-        return Choice::Nowhere;
-    }
-    if boundary::unmet(numbers, cell) && boundary::odd_count(numbers, ground::centre(cell)) {
-        let west = cell.west;
-        let south = cell.south;
-        return Choice::At(Cell { level, west, south });
-    }
-    Choice::Nowhere
-}
-
-// The first cell of the levels from one to another in a cell of the first of them.
+// The first cell of the levels from one to another in a cell of the first of them. The count is even at a
+// corner of the extents that every corner is at or below.
 fn in_cell(
-    numbers: &[u32],
+    edges: &[u32],
     room: &mut [u32],
     r: Rectangle,
     cell: Rectangle,
     finest: u32,
     top: u32,
 ) -> Choice
-    requires { ⌜ Ready (now numbers) (now room) finest top ⌝ }
-    requires { ⌜ Over (cornersOf (now numbers)) r ⌝ }
+    requires { ⌜ AllIn (now edges) (now room) ⌝ }
+    requires { ⌜ Over r (edgesIn (now edges)) ⌝ }
     requires { ⌜ Levels finest top ⌝ }
-    requires { ⌜ Ground top cell ⌝ }
-    ensures { λ c. ⌜ Best (cornersOf (now (numbers .entry))) top finest cell c ⌝ }
-    ensures { λ _. ⌜ StillListed (now (numbers .entry)) (now (room .entry)) (now (room .exit)) ⌝ }
+    requires { ⌜ Ground top top cell ⌝ }
+    ensures { λ c. ⌜ Best (edgesIn (now (edges .entry))) top finest cell c ⌝ }
+    ensures { λ _. ⌜ AllIn (now (edges .entry)) (now (room .exit)) ⌝ }
 {
-    if top == finest {
-        return at_once(numbers, r, cell, top);
-    }
+    let north = r.north;
+    let west = r.west;
     let half = Half {
         ground: cell,
-        odd: boundary::odd_count(numbers, corner_of(cell)),
+        corner: Point {
+            lat: north,
+            lon: west,
+        },
+        odd: false,
+        east: Lon(LON_END + 1),
         from: 0,
-        to: numbers.len() / 2,
+        to: edges.len() / 4,
     };
-    by_lat(numbers, room, half, finest, 2 * (finest - top))
+    by_lat(edges, room, half, r, finest, 2 * (finest - top))
 }
 
 // The first between two sides of the coarsest level: that level's south sides in turn.
 fn in_column(
-    numbers: &[u32],
+    edges: &[u32],
     room: &mut [u32],
     r: Rectangle,
     finest: u32,
@@ -157,12 +123,12 @@ fn in_column(
     west: Lon,
     east: Lon,
 ) -> Choice
-    requires { ⌜ Ready (now numbers) (now room) finest top ⌝ }
-    requires { ⌜ Over (cornersOf (now numbers)) r ⌝ }
+    requires { ⌜ AllIn (now edges) (now room) ⌝ }
+    requires { ⌜ Over r (edgesIn (now edges)) ⌝ }
     requires { ⌜ Levels finest top ⌝ }
     requires { ⌜ Column top west east ⌝ }
-    ensures { λ c. ⌜ Best (cornersOf (now (numbers .entry))) top finest (column west east) c ⌝ }
-    ensures { λ _. ⌜ StillListed (now (numbers .entry)) (now (room .entry)) (now (room .exit)) ⌝ }
+    ensures { λ c. ⌜ Best (edgesIn (now (edges .entry))) top finest (column west east) c ⌝ }
+    ensures { λ _. ⌜ AllIn (now (edges .entry)) (now (room .exit)) ⌝ }
 {
     let from = r.south;
     let to = r.north;
@@ -176,7 +142,7 @@ fn in_column(
             south: Lat(south),
             north: Lat(north),
         };
-        found = earlier(found, in_cell(numbers, room, r, cell, finest, top));
+        found = earlier(found, in_cell(edges, room, r, cell, finest, top));
         south = north;
     }
     found
@@ -184,12 +150,12 @@ fn in_column(
 
 // The first of the levels from one to another: the first level's west sides in turn. What is of that
 // level is not bettered further east.
-fn in_levels(numbers: &[u32], room: &mut [u32], r: Rectangle, finest: u32, top: u32) -> Choice
-    requires { ⌜ Ready (now numbers) (now room) finest top ⌝ }
-    requires { ⌜ Over (cornersOf (now numbers)) r ⌝ }
+fn in_levels(edges: &[u32], room: &mut [u32], r: Rectangle, finest: u32, top: u32) -> Choice
+    requires { ⌜ AllIn (now edges) (now room) ⌝ }
+    requires { ⌜ Over r (edgesIn (now edges)) ⌝ }
     requires { ⌜ Levels finest top ⌝ }
-    ensures { λ c. ⌜ Best (cornersOf (now (numbers .entry))) top finest everywhere c ⌝ }
-    ensures { λ _. ⌜ StillListed (now (numbers .entry)) (now (room .entry)) (now (room .exit)) ⌝ }
+    ensures { λ c. ⌜ Best (edgesIn (now (edges .entry))) top finest everywhere c ⌝ }
+    ensures { λ _. ⌜ AllIn (now (edges .entry)) (now (room .exit)) ⌝ }
 {
     let from = r.west;
     let to = r.east;
@@ -199,9 +165,9 @@ fn in_levels(numbers: &[u32], room: &mut [u32], r: Rectangle, finest: u32, top: 
         let east = ground::high_side(top, west) as u32;
         found = earlier(
             found,
-            in_column(numbers, room, r, finest, top, Lon(west), Lon(east)),
+            in_column(edges, room, r, finest, top, Lon(west), Lon(east)),
         );
-        if level_of(found, 28) == top {
+        if level_of(found, FINEST + 1) == top {
             return found;
         }
         west = east;
@@ -209,74 +175,30 @@ fn in_levels(numbers: &[u32], room: &mut [u32], r: Rectangle, finest: u32, top: 
     found
 }
 
-// Up to how many cells of a near level lie over an extent in a row: fewer for a long list of corners, of
-// which each near cell tries all. It only decides what a search costs, and nothing more is promised of
-// it.
-fn reach(corners: usize) -> u32
-    ensures { λ n. ⌜ 0 < n ⌝ }
+// The finest level that is searched together with a level: none but itself while its cells over the extents
+// are few; where they are many, a descent for some levels at once costs little more than one for the last
+// of them, and does not dive far below a coarse cell further on.
+fn finest_with(r: Rectangle, level: u32) -> u32
+    requires { ⌜ IsLevel level ⌝ }
+    ensures { λ f. ⌜ (level ≤ f) × (f ≤ finestLevel) ⌝ }
 {
-    if 256 < corners { 8 } else { 16 }
-}
-
-// What the near levels tell: the chosen cell, or the level to go on with.
-pub enum Nearby {
-    Found(Cell),
-    Next(u32),
-}
-
-// The first of a level, cell by cell: nothing is kept.
-fn near_level(numbers: &[u32], r: Rectangle, level: u32) -> Choice
-    requires { ⌜ Over (cornersOf (now numbers)) r ⌝ }
-    requires { ⌜ Levels level level ⌝ }
-    ensures { λ c. ⌜ Best (cornersOf (now (numbers .entry))) level level everywhere c ⌝ }
-{
-    let mut none = [0u32; 1];
-    in_levels(numbers, &mut none, r, level, level)
-}
-
-// Searches the levels of which few cells lie over the extents, cell by cell.
-pub(crate) fn near(numbers: &[u32], r: Rectangle) -> Nearby
-    requires { ⌜ Over (cornersOf (now numbers)) r ⌝ }
-    requires { ⌜ InRange (cornersOf (now numbers)) ⌝ }
-    ensures { λ n. ⌜ Nearly (cornersOf (now (numbers .entry))) n ⌝ }
-{
-    let mut level = first_level(r);
-    while level < 28 {
-        if short(r, level, reach(numbers.len() / 2)) {
-            return Nearby::Next(level);
-        }
-        let found = near_level(numbers, r, level);
-        if let Choice::At(c) = found {
-            return Nearby::Found(c);
-        }
-        level += 1;
+    if !short(r, level, 16) {
+        return level;
     }
-    Nearby::Next(level)
+    if level < FINEST - 7 { level + 7 } else { FINEST }
 }
 
-// The finest level that is searched together with a level: a descent for some levels at once costs
-// little more than one for the last of them, and does not dive far below a coarse cell further on.
-fn finest_with(level: u32) -> u32
-    requires { ⌜ level ≤ 27 ⌝ }
-    ensures { λ f. ⌜ (level ≤ f) × (f ≤ 27) ⌝ }
+// The chosen cell: the levels in turn, some together.
+pub(crate) fn search(edges: &[u32], room: &mut [u32], r: Rectangle) -> Choice
+    requires { ⌜ length (now edges) / 4 ≤ length (now room) / 4 ⌝ }
+    requires { ⌜ Over r (edgesIn (now edges)) ⌝ }
+    ensures { λ c. ⌜ c ≡ choose r (edgesIn (now (edges .entry))) ⌝ }
 {
-    if level < 20 { level + 7 } else { 27 }
-}
-
-// The chosen cell, where none of a level before one is inside: the levels up to 27, some together, by
-// halving.
-pub(crate) fn far(numbers: &[u32], room: &mut [u32], r: Rectangle, start: u32) -> Choice
-    requires { ⌜ 4 * (length (now numbers) / 2) ≤ length (now room) ⌝ }
-    requires { ⌜ Over (cornersOf (now numbers)) r ⌝ }
-    requires { ⌜ InRange (cornersOf (now numbers)) ⌝ }
-    requires { ⌜ NoneInside (cornersOf (now numbers)) start ⌝ }
-    ensures { λ c. ⌜ c ≡ choose (cornersOf (now (numbers .entry))) ⌝ }
-{
-    list_all(numbers, room);
-    let mut level = start;
-    while level < 28 {
-        let finest = finest_with(level);
-        let found = in_levels(numbers, room, r, finest, top_of(r, level));
+    keep_all(edges, room);
+    let mut level = first_level(r);
+    while level <= FINEST {
+        let finest = finest_with(r, level);
+        let found = in_levels(edges, room, r, finest, top_of(r, level));
         if let Choice::At(c) = found {
             return Choice::At(c);
         }

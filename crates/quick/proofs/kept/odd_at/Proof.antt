@@ -1,62 +1,59 @@
--- `quick::kept::odd_at` meets its contract: the edges from place i on are still to be counted. Assumes nothing.
-use Prim.Native.Nat.{_+_, _-_, _*_, _<_}
-use native.Mathlib.Omega.{arith}
-use mathlib.Core.Path.{ap, ap₂, _∙_}
-use borrow.Author.Needs.{needs}
-use lib.ListN.{length}
-use Rattle.boundary.specs.Boundary.{edge}
-use Rattle.boundary.specs.Keeping.{turns}
-use Rattle.quick.specs.KeptLaws.{OddLeft, odd-begin, odd-again, odd-end}
 use Rattle.quick.proofs.kept.odd_at.Statement.{statement}
 use Rattle.quick.proofs.kept.odd_at.Tie as tie
+use Rattle.quick.proofs.kept.odd_at.Reads as reads
+use Rattle.quick.proofs.kept.odd_at.Lts as lts
+use Rattle.corners.proofs.corner.Reads as corner-reads
+use Rattle.edge.proofs.turns.Reads as turns-reads
 
 abbrev Inv-loop : tie.InvT-loop
-Inv-loop numbers room q east p to odd₀ i₀ odd i = OddLeft numbers room east p q to odd i
+Inv-loop edges room q p east to odd₀ i₀ odd i = ?
 
 abbrev μ-loop : tie.MeasureT-loop
-μ-loop numbers room q east p to odd₀ i₀ odd i = to - i
+μ-loop edges room q p east to odd₀ i₀ odd i = ?
 
--- the loop's place is one of the room
-in-room : (c : tie.In-loop Inv-loop μ-loop)
-    → 4 * c .before .loop .i + 3 < length (c .before .before .before .before .before .before .before .args .room .now)
-in-room c = omega (arith, c .loop-test .taken, c .before .before .before .before .before .before .before .pre .0 .placed .last)
-
-corner-of-requires : tie.Need-corner-of-requires Inv-loop μ-loop
-corner-of-requires c κs = search needs
-
+-- src/kept.rt:65:5
 loop-holds : tie.Need-loop-holds Inv-loop μ-loop
-loop-holds c =
-    let start = c .before .before .before .before .before in
-    odd-begin (start .pre .0) (start .pre .1) (c .corner-of .ensures)
+loop-holds c = ?
 
-start-at-requires : tie.Need-start-at-requires Inv-loop μ-loop
-start-at-requires c κs = in-room c
+-- src/kept.rt:66:59
+mul-corner : tie.Need-mul-corner Inv-loop μ-loop
+mul-corner c = ?
 
-end-at-requires : tie.Need-end-at-requires Inv-loop μ-loop
-end-at-requires c κs = in-room (c .before)
+-- src/kept.rt:66:46
+corner-requires : tie.Need-corner-requires Inv-loop μ-loop
+corner-requires c κs = ?
 
+-- src/kept.rt:66:80
+mul-corner-2 : tie.Need-mul-corner-2 Inv-loop μ-loop
+mul-corner-2 c = ?
+
+-- src/kept.rt:66:80
+add-corner : tie.Need-add-corner Inv-loop μ-loop
+add-corner c = ?
+
+-- src/kept.rt:66:67
+corner-requires-2 : tie.Need-corner-requires-2 Inv-loop μ-loop
+corner-requires-2 c κs = ?
+
+-- src/kept.rt:66:22
 turns-requires : tie.Need-turns-requires Inv-loop μ-loop
-turns-requires c κs = search needs
+turns-requires c κs = ?
 
+-- src/kept.rt:67:9
 add-i : tie.Need-add-i Inv-loop μ-loop
-add-i c = search needs
+add-i c = ?
 
+-- src/kept.rt:65:5
 loop-less : tie.Need-loop-less Inv-loop μ-loop
-loop-less c = search needs
+loop-less c = ?
 
+-- src/kept.rt:65:5
 loop-again : tie.Need-loop-again Inv-loop μ-loop
-loop-again c =
-    let ends = c .before in
-    let at = ends .before .before in
-    let corner = at .before .before in
-    let start = corner .before .before .before .before .before in
-    odd-again (at .before .loop .inv) (at .loop-test .taken)
-    (c .turns .ensures
-    ∙ ap (turns (start .args .half .ground .east) (corner .corner-of .result) (start .args .q))
-    (ap₂ edge (ends .before .start-at .ensures) (ends .end-at .ensures)))
+loop-again c = ?
 
+-- src/kept.rt:55:1
 returns : tie.Need-returns Inv-loop μ-loop
-returns c = odd-end (c .before .loop .inv) (c .loop-test .left)
+returns c = ?
 
 pub odd-at-spec : {M : Type 1} → statement M
 odd-at-spec =
@@ -64,10 +61,12 @@ odd-at-spec =
     (tie.spec
     Inv-loop
     μ-loop
-    corner-of-requires
     loop-holds
-    start-at-requires
-    end-at-requires
+    mul-corner
+    corner-requires
+    mul-corner-2
+    add-corner
+    corner-requires-2
     turns-requires
     add-i
     loop-less

@@ -1,64 +1,63 @@
--- `quick::kept::unmet` meets its contract: what the edges from place i on say is still to be found. Assumes nothing.
-use Prim.Native.Nat.{_+_, _-_, _*_, _<_}
-use native.Mathlib.Omega.{arith}
-use mathlib.Core.Path.{_≡_, ap, ap₂, _∙_}
-use borrow.Author.Needs.{needs}
-use lib.ListN.{length}
-use Rattle.boundary.specs.Boundary.{Edge, edge, misses}
-use Rattle.quick.specs.Kept.{edgeIn}
-use Rattle.quick.specs.KeptLaws.{UnmetLeft, unmet-begin, unmet-met, unmet-again, unmet-end}
 use Rattle.quick.proofs.kept.unmet.Statement.{statement}
 use Rattle.quick.proofs.kept.unmet.Tie as tie
+use Rattle.quick.proofs.kept.unmet.Reads as reads
+use Rattle.quick.proofs.kept.unmet.Lts as lts
+use Rattle.corners.proofs.corner.Reads as corner-reads
+use Rattle.edge.proofs.misses.Reads as misses-reads
 
 abbrev Inv-loop : tie.InvT-loop
-Inv-loop numbers room ground to i₀ i = UnmetLeft numbers room ground to i
+Inv-loop edges room ground to i₀ i = ?
 
 abbrev μ-loop : tie.MeasureT-loop
-μ-loop numbers room ground to i₀ i = to - i
+μ-loop edges room ground to i₀ i = ?
 
--- the loop's place is one of the room
-in-room : (c : tie.In-loop Inv-loop μ-loop)
-    → 4 * c .before .loop .i + 3 < length (c .before .before .before .before .before .args .room .now)
-in-room c = omega (arith, c .loop-test .taken, c .before .before .before .before .before .pre .placed .last)
-
--- what is told of the edge there
-told : (c : tie.After-misses Inv-loop μ-loop)
-    → c .misses .result ≡ misses (edgeIn (c .before .before .before .before .before .before .before .before .args .room .now) (c .before .before .before .before .loop .i)) (c .before .before .before .before .before .before .before .before .args .half .ground)
-told c =
-    let start = c .before .before .before .before .before .before .before .before in
-    c .misses .ensures
-    ∙ ap (λ (e : Edge). misses e (start .args .half .ground)) (ap₂ edge (c .before .before .start-at .ensures) (c .before .end-at .ensures))
-
+-- src/kept.rt:45:5
 loop-holds : tie.Need-loop-holds Inv-loop μ-loop
-loop-holds c = unmet-begin (c .before .before .before .pre)
+loop-holds c = ?
 
-start-at-requires : tie.Need-start-at-requires Inv-loop μ-loop
-start-at-requires c κs = in-room c
+-- src/kept.rt:46:39
+mul-corner : tie.Need-mul-corner Inv-loop μ-loop
+mul-corner c = ?
 
-end-at-requires : tie.Need-end-at-requires Inv-loop μ-loop
-end-at-requires c κs = in-room (c .before)
+-- src/kept.rt:46:26
+corner-requires : tie.Need-corner-requires Inv-loop μ-loop
+corner-requires c κs = ?
 
+-- src/kept.rt:46:60
+mul-corner-2 : tie.Need-mul-corner-2 Inv-loop μ-loop
+mul-corner-2 c = ?
+
+-- src/kept.rt:46:60
+add-corner : tie.Need-add-corner Inv-loop μ-loop
+add-corner c = ?
+
+-- src/kept.rt:46:47
+corner-requires-2 : tie.Need-corner-requires-2 Inv-loop μ-loop
+corner-requires-2 c κs = ?
+
+-- src/kept.rt:46:13
 misses-requires : tie.Need-misses-requires Inv-loop μ-loop
-misses-requires c κs = search needs
+misses-requires c κs = ?
 
+-- src/kept.rt:47:13
 returns : tie.Need-returns Inv-loop μ-loop
-returns c =
-    let at = c .before .before .before .before in
-    unmet-met (at .before .loop .inv) (at .loop-test .taken) (told (c .before)) (c .if1 .taken)
+returns c = ?
 
+-- src/kept.rt:49:9
 add-i : tie.Need-add-i Inv-loop μ-loop
-add-i c = search needs
+add-i c = ?
 
+-- src/kept.rt:45:5
 loop-less : tie.Need-loop-less Inv-loop μ-loop
-loop-less c = search needs
+loop-less c = ?
 
+-- src/kept.rt:45:5
 loop-again : tie.Need-loop-again Inv-loop μ-loop
-loop-again c =
-    let at = c .before .before .before .before in
-    unmet-again (at .before .loop .inv) (at .loop-test .taken) (told (c .before)) (c .if1 .left)
+loop-again c = ?
 
+-- src/kept.rt:38:1
 returns-2 : tie.Need-returns-2 Inv-loop μ-loop
-returns-2 c = unmet-end (c .before .loop .inv) (c .loop-test .left)
+returns-2 c = ?
 
 pub unmet-spec : {M : Type 1} → statement M
 unmet-spec =
@@ -67,8 +66,11 @@ unmet-spec =
     Inv-loop
     μ-loop
     loop-holds
-    start-at-requires
-    end-at-requires
+    mul-corner
+    corner-requires
+    mul-corner-2
+    add-corner
+    corner-requires-2
     misses-requires
     returns
     add-i

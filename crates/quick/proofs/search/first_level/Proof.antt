@@ -1,44 +1,42 @@
--- `quick::search::first_level` meets its contract: cells of each level before `level` are too wide. Assumes nothing.
-use Prim.Native.Nat.{_-_, _≤_}
-use native.Mathlib.Omega.{arith}
-use mathlib.Core.Path.{sym, _∙_}
-use borrow.Author.Needs.{needs}
-use borrow.Author.Tests.{not-false}
-use Rattle.quick.specs.Asked.{UnfitBefore}
-use Rattle.quick.specs.SearchLaws.{unfit-begin, unfit-again}
 use Rattle.quick.proofs.search.first_level.Statement.{statement}
 use Rattle.quick.proofs.search.first_level.Tie as tie
+use Rattle.quick.proofs.search.first_level.Reads as reads
+use Rattle.quick.proofs.search.first_level.Lts as lts
+use Rattle.quick.proofs.search.too_wide.Reads as too-wide-reads
 
 abbrev Inv-loop : tie.InvT-loop
-Inv-loop r level₀ level = ((9 ≤ level) × (level ≤ 28)) × UnfitBefore r level
+Inv-loop r level₀ level = ?
 
 abbrev μ-loop : tie.MeasureT-loop
-μ-loop r level₀ level = 28 - level
+μ-loop r level₀ level = ?
 
+-- src/search.rt:45:5
 loop-holds : tie.Need-loop-holds Inv-loop μ-loop
-loop-holds c = ((omega arith, omega arith), unfit-begin (c .args .r))
+loop-holds c = ?
 
-unfit-requires : tie.Need-unfit-requires Inv-loop μ-loop
-unfit-requires c κs = search needs
+-- src/search.rt:46:13
+too-wide-requires : tie.Need-too-wide-requires Inv-loop μ-loop
+too-wide-requires c κs = ?
 
+-- src/search.rt:47:13
 returns : tie.Need-returns Inv-loop μ-loop
-returns c = c .before .before .before .loop .inv
+returns c = ?
 
+-- src/search.rt:49:9
 add-level : tie.Need-add-level Inv-loop μ-loop
-add-level c = search needs
+add-level c = ?
 
+-- src/search.rt:45:5
 loop-less : tie.Need-loop-less Inv-loop μ-loop
-loop-less c = search needs
+loop-less c = ?
 
+-- src/search.rt:45:5
 loop-again : tie.Need-loop-again Inv-loop μ-loop
-loop-again c =
-    let at = c .before .before .before in (
-      (omega (arith, at .loop .inv .0 .0), omega (arith, c .before .before .loop-test .taken)),
-      unfit-again (at .before .args .r) (at .loop .inv .1) (sym (c .before .unfit .ensures) ∙ not-false (c .before .unfit .result) (c .if1 .left)),
-    )
+loop-again c = ?
 
+-- src/search.rt:40:1
 returns-2 : tie.Need-returns-2 Inv-loop μ-loop
-returns-2 c = c .before .loop .inv
+returns-2 c = ?
 
 pub first-level-spec : {M : Type 1} → statement M
 first-level-spec =
@@ -47,7 +45,7 @@ first-level-spec =
     Inv-loop
     μ-loop
     loop-holds
-    unfit-requires
+    too-wide-requires
     returns
     add-level
     loop-less
