@@ -12,6 +12,8 @@ pub use halves::lon_split;
 pub use halves::narrowest;
 pub use rectangles::centre;
 pub use rectangles::east_of;
+pub use rectangles::greater;
+pub use rectangles::lesser;
 pub use rectangles::north_of;
 pub use rectangles::south_of;
 pub use rectangles::south_west;

@@ -101,13 +101,15 @@ pub fn east_of(r: Rectangle, at: Lon) -> Rectangle
     }
 }
 
-fn lesser(a: u32, b: u32) -> u32
+// The lesser of two angles of one direction.
+pub fn lesser(a: u32, b: u32) -> u32
     ensures { λ r. ⌜ r ≡ min a b ⌝ }
 {
     if a < b { a } else { b }
 }
 
-fn greater(a: u32, b: u32) -> u32
+// The greater of two.
+pub fn greater(a: u32, b: u32) -> u32
     ensures { λ r. ⌜ r ≡ max a b ⌝ }
 {
     if a < b { b } else { a }

@@ -22,8 +22,8 @@ pub enum Tested {
 fn common(low: u32, high: u32, from: u32, to: u32) -> u32
     ensures { λ n. ⌜ n ≡ Half·common low high from to ⌝ }
 {
-    let start = if low < from { from } else { low };
-    let end = if high < to { high } else { to };
+    let start = ground::greater(low, from);
+    let end = ground::lesser(high, to);
     if start < end { end - start } else { 0 }
 }
 

@@ -1,63 +1,63 @@
+-- `quick::kept::keep_all` meets its contract: the edges before place i stand in the room. Assumes nothing.
+use borrow.Author.Needs.{needs}
+use Prim.Native.Nat.{_-_, _/_}
+use native.Mathlib.Omega.{arith}
+use mathlib.Core.Path.{ap, ap₂, _∙_}
+use lib.ListN.{length}
+use Rattle.edge.specs.Edge.{Edge, edge}
+use Rattle.boundary.specs.Listed.{withEdge}
+use Rattle.quick.specs.HalfLaws.{Filled, filled-begin, filled-again, filled-as, filled-end}
 use Rattle.quick.proofs.kept.keep_all.Statement.{statement}
 use Rattle.quick.proofs.kept.keep_all.Tie as tie
-use Rattle.quick.proofs.kept.keep_all.Reads as reads
-use Rattle.quick.proofs.kept.keep_all.Lts as lts
-use Rattle.boundary.proofs.put_edge.Reads as put-edge-reads
-use Rattle.corners.proofs.corner.Reads as corner-reads
 
 abbrev Inv-loop : tie.InvT-loop
-Inv-loop edges room₀ count i₀ room i = ?
+Inv-loop edges room₀ count i₀ room i = Filled edges room₀ room i
 
 abbrev μ-loop : tie.MeasureT-loop
-μ-loop edges room₀ count i₀ room i = ?
+μ-loop edges room₀ count i₀ room i = length edges / 4 - i
 
--- src/kept.rt:31:5
 loop-holds : tie.Need-loop-holds Inv-loop μ-loop
-loop-holds c = ?
+loop-holds c = filled-begin _ _
 
--- src/kept.rt:32:41
 mul-corner : tie.Need-mul-corner Inv-loop μ-loop
-mul-corner c = ?
+mul-corner c = search needs
 
--- src/kept.rt:32:27
 corner-requires : tie.Need-corner-requires Inv-loop μ-loop
-corner-requires c κs = ?
+corner-requires c κs = search needs
 
--- src/kept.rt:32:63
 mul-corner-2 : tie.Need-mul-corner-2 Inv-loop μ-loop
-mul-corner-2 c = ?
+mul-corner-2 c = search needs
 
--- src/kept.rt:32:63
 add-corner : tie.Need-add-corner Inv-loop μ-loop
-add-corner c = ?
+add-corner c = search needs
 
--- src/kept.rt:32:49
 corner-requires-2 : tie.Need-corner-requires-2 Inv-loop μ-loop
-corner-requires-2 c κs = ?
+corner-requires-2 c κs = search needs
 
--- src/kept.rt:32:9
 put-edge-requires : tie.Need-put-edge-requires Inv-loop μ-loop
-put-edge-requires c κs = ?
+put-edge-requires c κs = search needs
 
--- src/kept.rt:33:9
 add-i : tie.Need-add-i Inv-loop μ-loop
-add-i c = ?
+add-i c = search needs
 
--- src/kept.rt:31:5
 loop-less : tie.Need-loop-less Inv-loop μ-loop
-loop-less c = ?
+loop-less c = search needs
 
--- src/kept.rt:31:5
 loop-again : tie.Need-loop-again Inv-loop μ-loop
-loop-again c = ?
+loop-again c =
+    let put = c .before .before in
+    let at = put .before .before .before .before in
+    let start = at .before .before .before .before in
+    filled-as
+    (put .put-edge .ensures
+    ∙ ap (λ (e : Edge). withEdge (at .before .loop .room) (at .before .loop .i) e) (ap₂ edge (put .before .before .corner .ensures) (put .before .corner2 .ensures)))
+    (filled-again (at .before .loop .inv) (omega (arith, at .loop-test .taken, start .pre)))
 
--- src/kept.rt:25:1
 same-length : tie.Need-same-length Inv-loop μ-loop
-same-length c = ?
+same-length c = c .before .loop .inv .long
 
--- src/kept.rt:25:1
 returns : tie.Need-returns Inv-loop μ-loop
-returns c = ?
+returns c = filled-end (c .before .loop .inv) (c .loop-test .left) (c .before .before .before .before .pre)
 
 pub keep-all-spec : {M : Type 1} → statement M
 keep-all-spec =

@@ -1,30 +1,36 @@
+-- `quick::search::too_wide` meets its contract: one extent, or else the other. Assumes nothing.
+use mathlib.Core.Path.{ap₂}
+use lib.Dec.{ltb}
+use borrow.Author.Tests.{lt-ltb, le-ltb}
+use Rattle.ground.specs.Levels.{distance}
+use Rattle.ground.specs.Halves.{narrowest}
+use Rattle.quick.specs.SearchLaws.{or-first, or-second}
 use borrow.Author.Needs.{needs}
 use Rattle.quick.proofs.search.too_wide.Statement.{statement}
 use Rattle.quick.proofs.search.too_wide.Tie as tie
-use Rattle.quick.proofs.search.too_wide.Reads as reads
-use Rattle.quick.proofs.search.too_wide.Lts as lts
-use Rattle.ground.proofs.apart.Reads as apart-reads
-use Rattle.ground.proofs.narrowest.Reads as narrowest-reads
 
--- src/search.rt:35:9
 narrowest-requires : tie.Need-narrowest-requires
 narrowest-requires c κs = search needs
 
--- src/search.rt:36:5
 apart-requires : tie.Need-apart-requires
 apart-requires c κs = search needs
 
--- src/search.rt:36:46
 apart-requires-2 : tie.Need-apart-requires-2
 apart-requires-2 c κs = search needs
 
--- src/search.rt:28:1
 returns : tie.Need-returns
-returns c = ?
+returns c =
+    let a = c .before .before .before .before .before .before .before .args in
+    or-first (ltb (distance (a .r .south .0) (a .r .north .0)) (narrowest (a .level)))
+    (ap₂ ltb (c .before .apart .ensures) (c .before .before .narrowest .ensures))
+    (lt-ltb (c .before .apart .result) (c .before .before .narrowest .result) (c .if1 .taken))
 
--- src/search.rt:28:1
 returns-2 : tie.Need-returns-2
-returns-2 c = ?
+returns-2 c =
+    let first = c .before .before in
+    or-second (ap₂ ltb (first .apart .ensures) (first .before .narrowest .ensures))
+    (le-ltb (first .apart .result) (first .before .narrowest .result) (c .before .if1 .left))
+    (ap₂ ltb (c .apart2 .ensures) (first .before .narrowest .ensures))
 
 pub too-wide-spec : {M : Type 1} → statement M
 too-wide-spec =

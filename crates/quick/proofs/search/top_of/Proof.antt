@@ -1,42 +1,39 @@
+-- `quick::search::top_of` meets its contract. Assumes nothing.
+use borrow.Author.Needs.{needs}
+use Prim.Native.Nat.{_≤_}
+use native.Mathlib.Omega.{arith}
+use Rattle.ground.specs.Levels.{coarsestLevel}
 use Rattle.quick.proofs.search.top_of.Statement.{statement}
 use Rattle.quick.proofs.search.top_of.Tie as tie
-use Rattle.quick.proofs.search.top_of.Reads as reads
-use Rattle.quick.proofs.search.top_of.Lts as lts
-use Rattle.quick.proofs.search.short.Reads as short-reads
 
 abbrev Inv-loop : tie.InvT-loop
-Inv-loop r level top₀ top = ?
+Inv-loop r level top₀ top = (coarsestLevel ≤ top) × (top ≤ level)
 
 abbrev μ-loop : tie.MeasureT-loop
-μ-loop r level top₀ top = ?
+μ-loop r level top₀ top = top
 
--- src/search.rt:74:5
 loop-holds : tie.Need-loop-holds Inv-loop μ-loop
-loop-holds c = ?
+loop-holds c = (c .pre, omega arith)
 
--- src/search.rt:75:13
 short-requires : tie.Need-short-requires Inv-loop μ-loop
-short-requires c κs = ?
+short-requires c κs = search needs
 
--- src/search.rt:76:13
 returns : tie.Need-returns Inv-loop μ-loop
-returns c = ?
+returns c = c .before .before .before .loop .inv
 
--- src/search.rt:78:9
 sub-top : tie.Need-sub-top Inv-loop μ-loop
-sub-top c = ?
+sub-top c = search needs
 
--- src/search.rt:74:5
 loop-less : tie.Need-loop-less Inv-loop μ-loop
-loop-less c = ?
+loop-less c = search needs
 
--- src/search.rt:74:5
 loop-again : tie.Need-loop-again Inv-loop μ-loop
-loop-again c = ?
+loop-again c =
+    let at = c .before .before .before in
+    (omega (arith, c .before .before .loop-test .taken), omega (arith, at .loop .inv .1))
 
--- src/search.rt:69:1
 returns-2 : tie.Need-returns-2 Inv-loop μ-loop
-returns-2 c = ?
+returns-2 c = c .before .loop .inv
 
 pub top-of-spec : {M : Type 1} → statement M
 top-of-spec =
