@@ -181,7 +181,7 @@ module _ (t : ℕ) where
 
   -- and the room is the same up to the whole's last place
   lat-kept : (c : by-lat-lts.After-by-lon2 (lat-calls t) (by-lat-at t) by-lat.Post)
-      → let s = lat-start t (lat-at t (lat-both t (lat-low t c))) in 
+      → let s = lat-start t (lat-at t (lat-both t (lat-low t c))) in
       Same (s .args .half .to) (s .args .room .now) (c .by-lon2 .last .1 .0)
   lat-kept c =
       let low = lat-low t c in
@@ -190,7 +190,7 @@ module _ (t : ℕ) where
 
   -- The levels that are left for the north half
   lat-left : (c : by-lat-lts.After-level-of (lat-calls t) (by-lat-at t) by-lat.Post)
-      → let s = lat-start t (lat-at t (lat-both t (lat-low t (lat-first t c)))) in 
+      → let s = lat-start t (lat-at t (lat-both t (lat-low t (lat-first t c)))) in
       (s .args .finest - (s .args .left - 1) / 2 ≤ c .level-of .result) × (c .level-of .result ≤ s .args .finest)
   lat-left c =
       let first = lat-first t c in
