@@ -421,6 +421,14 @@ boundary-few numbers =
         by true h = omega arith
         by false h = omega arith
 
+-- and so no more are listed
+pub listed-count : (numbers edges places : List ℕ) → listedCount numbers edges places ≤ length (boundaryOf numbers)
+listed-count numbers edges places = by (haveRoom numbers edges places)
+  where
+    by : (b : Bool) → cond b (length (boundaryOf numbers)) 0 ≤ length (boundaryOf numbers)
+    by true = omega arith
+    by false = omega arith
+
 -- The edges that listing puts at the start of a room are the boundary's
 pub listed-boundary : (numbers edges places : List ℕ) → haveRoom numbers edges places ≡ true
     → edgesIn (take (4 * listedCount numbers edges places) (listedEdges numbers edges places)) ≡ boundaryOf numbers
