@@ -8,7 +8,7 @@ use ground::Lat;
 use ground::Lon;
 use ground::Point;
 use ground::Rectangle;
-use lines::Numbers;
+use numbers::Numbers;
 
 // More numbers than a line has: each takes a space and a digit.
 const MOST: usize = lines::LONGEST / 2;
@@ -16,13 +16,13 @@ const MOST: usize = lines::LONGEST / 2;
 // The answer to a line, and a line feed.
 pub(crate) fn answer_line(room: &[u8], len: usize, out: &mut [u8], at: usize) -> usize {
     if len > lines::LONGEST {
-        return lines::put(out, at, b"?\n");
+        return room::put(out, at, b"?\n");
     }
     if room.len() < len {
-        return lines::put(out, at, b"?\n");
+        return room::put(out, at, b"?\n");
     }
     let end = answer(&room[0..len], out, at);
-    lines::put(out, end, b"\n")
+    room::put(out, end, b"\n")
 }
 
 fn answer(text: &[u8], out: &mut [u8], at: usize) -> usize {
@@ -47,7 +47,7 @@ fn answer(text: &[u8], out: &mut [u8], at: usize) -> usize {
     if lines::starts(text, b"inside ") {
         return answer_inside(text, out, at);
     }
-    lines::put(out, at, b"?")
+    room::put(out, at, b"?")
 }
 
 // `write ROOM LAT LON SCALE E W S N NUMBER`: the room has that many bytes `.`, 64 at most.
@@ -55,11 +55,11 @@ fn answer_write(text: &[u8], out: &mut [u8], at: usize) -> usize {
     let mut numbers = [0u32; 9];
     let count = count_in(text, 5, &mut numbers);
     if count != 9 {
-        return lines::put(out, at, b"?");
+        return room::put(out, at, b"?");
     }
     let size = wide(numbers[0]);
     if size > 64 {
-        return lines::put(out, at, b"?");
+        return room::put(out, at, b"?");
     }
     let mut room = [b'.'; 64];
     let fields = Fields {
@@ -80,9 +80,9 @@ fn answer_write(text: &[u8], out: &mut [u8], at: usize) -> usize {
 // Writes a code into the room. The place is always 0.
 fn write_into(room: &mut [u8], fields: Fields, out: &mut [u8], at: usize) -> usize {
     let answer = code::write(room, fields);
-    let end = lines::put_decimal(out, at, code::written_number(answer) as u64);
-    let end = lines::put(out, end, b" 0 ");
-    lines::put(out, end, room)
+    let end = output::put_decimal(out, at, code::written_number(answer) as u64);
+    let end = room::put(out, end, b" 0 ");
+    room::put(out, end, room)
 }
 
 fn wide(n: u32) -> usize {
@@ -95,7 +95,7 @@ fn answer_read(text: &[u8], out: &mut [u8], at: usize) -> usize {
         return at;
     }
     let answer = code::read(&text[5..]);
-    let end = lines::put_decimal(out, at, code::reading_number(answer) as u64);
+    let end = output::put_decimal(out, at, code::reading_number(answer) as u64);
     let end = put_after_space(out, end, code::reading_place(answer));
     if let Reading::Accepted(fields, sides) = answer {
         put_fields(fields, sides, out, end)
@@ -134,8 +134,8 @@ fn put_all(numbers: &[u32], out: &mut [u8], at: usize) -> usize {
 }
 
 fn put_after_space(out: &mut [u8], at: usize, n: u32) -> usize {
-    let end = lines::put(out, at, b" ");
-    lines::put_decimal(out, end, n as u64)
+    let end = room::put(out, at, b" ");
+    output::put_decimal(out, end, n as u64)
 }
 
 // `meets ALAT ALON BLAT BLON WEST EAST SOUTH NORTH`: whether the edge from A to B meets the rectangle.
@@ -143,7 +143,7 @@ fn answer_meets(text: &[u8], out: &mut [u8], at: usize) -> usize {
     let mut numbers = [0u32; 8];
     let count = count_in(text, 5, &mut numbers);
     if count != 8 {
-        return lines::put(out, at, b"?");
+        return room::put(out, at, b"?");
     }
     let a = Point {
         lat: Lat(numbers[0]),
@@ -167,10 +167,10 @@ fn answer_odd(text: &[u8], out: &mut [u8], at: usize) -> usize {
     let mut numbers = [0u32; MOST];
     let count = count_in(text, 3, &mut numbers);
     if count < 2 {
-        return lines::put(out, at, b"?");
+        return room::put(out, at, b"?");
     }
     if numbers.len() < count {
-        return lines::put(out, at, b"?");
+        return room::put(out, at, b"?");
     }
     let point = Point {
         lat: Lat(numbers[0]),
@@ -184,10 +184,10 @@ fn answer_inside(text: &[u8], out: &mut [u8], at: usize) -> usize {
     let mut numbers = [0u32; MOST];
     let count = count_in(text, 6, &mut numbers);
     if count < 3 {
-        return lines::put(out, at, b"?");
+        return room::put(out, at, b"?");
     }
     if numbers.len() < count {
-        return lines::put(out, at, b"?");
+        return room::put(out, at, b"?");
     }
     let cell = Cell {
         level: numbers[0],
@@ -200,7 +200,7 @@ fn answer_inside(text: &[u8], out: &mut [u8], at: usize) -> usize {
 // Puts the numbers of a line from a position on into the room and counts them; 0 where anything else
 // stands there.
 fn count_in(text: &[u8], at: usize, room: &mut [u32]) -> usize {
-    let found = lines::numbers_at(text, at, room);
+    let found = numbers::numbers_at(text, at, room);
     if let Numbers::Count(count) = found {
         count
     } else {
@@ -210,7 +210,7 @@ fn count_in(text: &[u8], at: usize, room: &mut [u32]) -> usize {
 
 fn put_truth(truth: bool, out: &mut [u8], at: usize) -> usize {
     if truth {
-        return lines::put(out, at, b"1");
+        return room::put(out, at, b"1");
     }
-    lines::put(out, at, b"0")
+    room::put(out, at, b"0")
 }

@@ -1,6 +1,6 @@
 // Coding a unit by a road: the answers to `plain ROOM KIND NUMBER COORDINATE..` and `quick ..`.
-use lines::Number;
-use lines::Unit;
+use numbers::Number;
+use stated::Unit;
 use unit::Coded;
 use unit::Kind;
 
@@ -15,15 +15,15 @@ const MOST: usize = lines::LONGEST / 2;
 
 // The answer to a request whose room's size starts at a position of the text: number, place, room.
 pub(crate) fn answer(road: Road, text: &[u8], start: usize, out: &mut [u8], at: usize) -> usize {
-    let size = lines::number_at(text, start);
+    let size = numbers::number_at(text, start);
     let Number::At(size, end) = size else {
-        return lines::put(out, at, b"?");
+        return room::put(out, at, b"?");
     };
     if size > 64 {
-        return lines::put(out, at, b"?");
+        return room::put(out, at, b"?");
     }
     if text.len() <= end {
-        return lines::put(out, at, b"?");
+        return room::put(out, at, b"?");
     }
     answer_unit(road, size as usize, &text[end + 1..text.len()], out, at)
 }
@@ -31,13 +31,13 @@ pub(crate) fn answer(road: Road, text: &[u8], start: usize, out: &mut [u8], at: 
 // Codes the unit of a text into a room of so many bytes `.`, 64 at most.
 fn answer_unit(road: Road, size: usize, text: &[u8], out: &mut [u8], at: usize) -> usize {
     let mut numbers = [0u32; MOST];
-    let unit = lines::unit_of(text, &mut numbers);
+    let unit = stated::unit_of(text, &mut numbers);
     let Unit::Stated(letter, number, count) = unit else {
-        return lines::put(out, at, b"?");
+        return room::put(out, at, b"?");
     };
     let mut room = [b'.'; 64];
     if numbers.len() < count || room.len() < size {
-        return lines::put(out, at, b"?");
+        return room::put(out, at, b"?");
     }
     code_into(
         road,
@@ -69,9 +69,9 @@ fn code_into(
     at: usize,
 ) -> usize {
     let said = code_by(road, room, numbers, kind, number);
-    let end = lines::put_decimal(out, at, unit::coded_number(said) as u64);
-    let end = lines::put(out, end, b" ");
-    let end = lines::put_decimal(out, end, unit::coded_place(said) as u64);
-    let end = lines::put(out, end, b" ");
-    lines::put(out, end, room)
+    let end = output::put_decimal(out, at, unit::coded_number(said) as u64);
+    let end = room::put(out, end, b" ");
+    let end = output::put_decimal(out, end, unit::coded_place(said) as u64);
+    let end = room::put(out, end, b" ");
+    room::put(out, end, room)
 }

@@ -38,7 +38,8 @@ returns c =
     let road = c .before .before .before .before .before .before .before .before .code2 in
     let so = road .ensures ∙ ap (λ (k : Kind). coding (replicate 20 0) (asked .coordinates .now) k (asked .number)) (kind .ensures) in
     let accepts = sym (c .before .before .before .before .before .before .coded-number .ensures) ∙ c .before .before .before .before .before .if1 .taken in
-    rw (said-code (asked .letter) (asked .number) (asked .coordinates .now) (road .last .0) (road .result) so accepts) (c .before .before .put-code .ensures)
+    let said = said-code (asked .letter) (asked .number) (asked .coordinates .now) (road .last .0) (road .result) so accepts in
+    rw said (c .before .before .put-code .ensures)
 
 coded-place-requires : tie.Need-coded-place-requires
 coded-place-requires c κs = search needs
@@ -56,9 +57,10 @@ returns-2 c =
     let road = c .before .before .before .before .before .before .before .before .code2 in
     let so = road .ensures ∙ ap (λ (k : Kind). coding (replicate 20 0) (asked .coordinates .now) k (asked .number)) (kind .ensures) in
     let number = c .before .before .before .before .before .before .coded-number .ensures in
-    let refuses : says (road .result) .number ≡ 0 → ⊥ = λ (e : says (road .result) .number ≡ 0). c .before .before .before .before .before .if1 .left (number ∙ e) in
-    rw (said-refused (asked .letter) (asked .number) (asked .coordinates .now) (road .last .0) (road .result) so refuses, ← number, ← c .before .before .before .coded-place .ensures)
-    (c .before .before .put-refused .ensures)
+    let other = c .before .before .before .before .before .if1 .left in
+    let refuses : says (road .result) .number ≡ 0 → ⊥ = λ (e : says (road .result) .number ≡ 0). other (number ∙ e) in
+    let said = said-refused (asked .letter) (asked .number) (asked .coordinates .now) (road .last .0) (road .result) so refuses in
+    rw (said, ← number, ← c .before .before .before .coded-place .ensures) (c .before .before .put-refused .ensures)
 
 pub reply-unit-spec : {M : Type 1} → statement M
 reply-unit-spec =
