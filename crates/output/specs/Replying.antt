@@ -1,5 +1,5 @@
--- A loop over the bytes of a read that puts replies into an output: what is put so far, with what the bytes to come give, is the whole.
--- Assumes nothing.
+-- Replies put into an output: one reply part by part, and a loop over the bytes of a read, where what is put so far, with what the bytes
+-- to come give, is the whole. Assumes nothing.
 use Prim.Native.Nat.{ℕ, _+_, _≤_, _<_}
 use native.Mathlib.Numerals.{add-one}
 use mathlib.Core.Path.{_≡_, refl, sym, ap, _∙_}
@@ -7,10 +7,17 @@ use mathlib.Core.List.{List, [], _∷_, _++_, append-nil, append-assoc}
 use lib.ListN.{length, drop, getD, drop-of-length-le}
 use lib.Seq.{drop-cons}
 use Rattle.room.specs.Room.{Put}
-use Rattle.room.specs.RoomLaws.{put-nothing, put-then}
-use Rattle.lines.specs.Lines.{Reply}
+use Rattle.room.specs.RoomLaws.{put-nothing, put-then, put-four}
+use Rattle.facts.specs.Texts.{bytes}
+use Rattle.lines.specs.Lines.{Reply, decimal, saying, replyLine}
 use Rattle.lines.specs.Automaton.{Coming, after, ended}
 use Rattle.lines.specs.AutomatonLaws.{after-append, ended-append}
+
+-- the line's number, a space, what is said and a line feed
+pub put-reply : (number : ℕ) (said : Reply) {out : List ℕ} {at h i j end : ℕ} {p q r later : List ℕ} → Put out at (decimal number) h p
+    → Put p h (bytes " ") i q → Put q i (saying said) j r → Put r j (bytes "\n") end later → Put out at (replyLine number said) end later
+unfolding replyLine
+put-reply number said = put-four
 
 -- the bytes before the position i are taken, and the replies in them put
 pub record Replying (said : List ℕ → Reply) (start : Coming) (bytes lent : List ℕ) (line : Coming) (out : List ℕ) (put i : ℕ) : Type 0 where

@@ -1,6 +1,5 @@
 -- `output::put_code` meets its contract: what is put one after another is put as one text. Assumes nothing.
-use Rattle.lines.specs.Lines.{replyLine}
-use Rattle.room.specs.RoomLaws.{put-four}
+use Rattle.output.specs.Replying.{put-reply}
 use borrow.Author.Needs.{needs}
 use Rattle.output.proofs.put_code.Statement.{statement}
 use Rattle.output.proofs.put_code.Tie as tie
@@ -27,9 +26,10 @@ same-length : tie.Need-same-length
 same-length c = search needs
 
 returns : tie.Need-returns
-unfolding replyLine
 returns c =
-    put-four
+    put-reply
+    _
+    _
     (c .before .before .before .before .before .before .before .before .before .before .before .before .before .before .before .before .put-decimal .ensures)
     (c .before .before .before .before .before .before .before .before .before .before .before .put .ensures)
     (c .before .before .before .before .before .before .before .put2 .ensures)

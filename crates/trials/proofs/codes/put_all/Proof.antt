@@ -1,11 +1,11 @@
--- `trials::request::put_all` is safe and ends. The loop's invariant: the buffer keeps its length. The measure is what is left of the
+-- `trials::codes::put_all` is safe and ends. The loop's invariant: the buffer keeps its length. The measure is what is left of the
 -- numbers. Assumes nothing.
 use borrow.Author.Needs.{needs}
 use Prim.Native.Nat.{_-_}
 use mathlib.Core.Path.{_≡_}
 use lib.ListN.{length}
-use Rattle.trials.proofs.request.put_all.Statement.{statement}
-use Rattle.trials.proofs.request.put_all.Tie as tie
+use Rattle.trials.proofs.codes.put_all.Statement.{statement}
+use Rattle.trials.proofs.codes.put_all.Tie as tie
 
 abbrev Inv-loop : tie.InvT-loop
 Inv-loop numbers out₀ at end₀ i₀ out end i = length out ≡ length out₀
