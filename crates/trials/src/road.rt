@@ -4,12 +4,18 @@ use crate::request::put_said;
 use numbers::Number;
 use stated::Unit;
 use unit::Coded;
-use unit::Kind;
 
 // The two roads.
 pub enum Road {
     Plain,
     Quick,
+}
+
+// What is asked beside the coordinates: the road, the letter of the kind and the unit number.
+struct Asked {
+    road: Road,
+    letter: u8,
+    number: u32,
 }
 
 // The answer to a request that names the road, whose room's size starts after the name and a space.
@@ -34,44 +40,25 @@ fn answer_unit(road: Road, size: usize, text: &[u8], out: &mut [u8], at: usize) 
     if numbers.len() < count {
         return at;
     }
-    code_sized(
+    let asked = Asked {
         road,
-        size,
-        &numbers[0..count],
-        unit::kind_of(letter),
+        letter,
         number,
-        out,
-        at,
-    )
+    };
+    code_sized(asked, size, &numbers[0..count], out, at)
 }
 
-fn code_sized(
-    road: Road,
-    size: usize,
-    numbers: &[u32],
-    kind: Kind,
-    number: u32,
-    out: &mut [u8],
-    at: usize,
-) -> usize {
+fn code_sized(asked: Asked, size: usize, numbers: &[u32], out: &mut [u8], at: usize) -> usize {
     let mut room = [b'.'; 64];
     if room.len() < size {
         return at;
     }
-    code_into(road, &mut room[0..size], numbers, kind, number, out, at)
+    code_into(asked, &mut room[0..size], numbers, out, at)
 }
 
 // Codes a unit into the room.
-fn code_into(
-    road: Road,
-    room: &mut [u8],
-    numbers: &[u32],
-    kind: Kind,
-    number: u32,
-    out: &mut [u8],
-    at: usize,
-) -> usize {
-    let said = code_by(road, room, numbers, kind, number);
+fn code_into(asked: Asked, room: &mut [u8], numbers: &[u32], out: &mut [u8], at: usize) -> usize {
+    let said = code_by(asked, room, numbers);
     put_said(
         unit::coded_number(said),
         unit::coded_place(said),
@@ -82,9 +69,11 @@ fn code_into(
 }
 
 // What a road says.
-fn code_by(road: Road, room: &mut [u8], numbers: &[u32], kind: Kind, number: u32) -> Coded {
+fn code_by(asked: Asked, room: &mut [u8], numbers: &[u32]) -> Coded {
+    let road = asked.road;
+    let kind = unit::kind_of(asked.letter);
     match road {
-        Road::Plain => plain::code(room, numbers, kind, number),
-        Road::Quick => quick::code(room, numbers, kind, number),
+        Road::Plain => plain::code(room, numbers, kind, asked.number),
+        Road::Quick => quick::code(room, numbers, kind, asked.number),
     }
 }
