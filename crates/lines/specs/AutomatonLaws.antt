@@ -38,6 +38,15 @@ module _ (said : List ℕ → Reply) (line : Coming) where
 
 -- ---- the bytes that stand in the room
 
+-- how many there are after one byte more: in a room that lasts, and past its end
+pub grown-within : (size len : ℕ) → len < size → grown size len ≡ len + 1
+unfolding grown
+grown-within size len h = rw (lt-ltb len size h)
+
+pub grown-past : (size len : ℕ) → size ≤ len → grown size len ≡ len
+unfolding grown
+grown-past size len h = rw (le-ltb len size h)
+
 -- the room has the first bytes of a text, as many as it takes
 record Stands (line : Coming) (text : List ℕ) : Type 0 where
   pub len : line .len ≡ min (length text) (length (line .room))
@@ -46,14 +55,6 @@ record Stands (line : Coming) (text : List ℕ) : Type 0 where
 -- at the start of a line
 stands-none : (number : ℕ) (room : List ℕ) → Stands (record { number = number; len = 0; room = room }) []
 stands-none number room = record { len = omega arith; held = sym (take-all (length room) [] (omega arith)) }
-
-grown-within : (size len : ℕ) → len < size → grown size len ≡ len + 1
-unfolding grown
-grown-within size len h = rw (lt-ltb len size h)
-
-grown-past : (size len : ℕ) → size ≤ len → grown size len ≡ len
-unfolding grown
-grown-past size len h = rw (le-ltb len size h)
 
 -- a byte more
 stands-more : (line : Coming) (text : List ℕ) (b : ℕ) → Stands line text → Stands (more b line) (text ++ (b ∷ []))

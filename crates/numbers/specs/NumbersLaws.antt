@@ -95,11 +95,12 @@ module _ (w : List ℕ) where
 
   pub word-one : length w ≡ 1 → wordOf w ≡ digitsAfter 0 w
   unfolding wordOf isNumber digitsAfter
-  word-one e = rw (le-leb 1 (length w) (omega arith), le-leb (length w) 10 (omega arith), le-ltb 1 (length w) (omega arith), and-true, and-true)
+  word-one e = rw (le-leb 1 (length w) (omega arith), le-leb (length w) 10 (omega arith), le-ltb 1 (length w) (omega arith)) (simp and-true)
 
   pub word-digits : 1 < length w → length w ≤ 10 → (getD w 0 0 ≡ 48 → ⊥) → wordOf w ≡ digitsAfter 0 w
   unfolding wordOf isNumber digitsAfter
-  word-digits h k n = rw (le-leb 1 (length w) (omega arith), le-leb (length w) 10 k, lt-ltb 1 (length w) h, ne-eqb (getD w 0 0) 48 n, and-true, and-true)
+  word-digits h k n =
+      rw (le-leb 1 (length w) (omega arith), le-leb (length w) 10 k, lt-ltb 1 (length w) h, ne-eqb (getD w 0 0) 48 n) (simp and-true)
 
 -- the number at a position is what the bytes up to the word's end say; past the line's end there is none
 module _ (line : List ℕ) (at end : ℕ) (ends : end ≡ wordEnd line at) where

@@ -1,10 +1,9 @@
 -- `lines::add` meets its contract: the test says which case of `grown` holds, and a store past a room's end leaves the room.
 -- Assumes nothing.
-use borrow.Author.Tests.{lt-ltb, le-ltb}
 use lib.ListN.{length}
 use lib.Seq.{set-out}
 use mathlib.Core.Path.{sym, refl}
-use Rattle.lines.specs.Automaton.{grown}
+use Rattle.lines.specs.AutomatonLaws.{grown-within, grown-past}
 use borrow.Author.Needs.{needs}
 use Rattle.lines.proofs.add.Statement.{statement}
 use Rattle.lines.proofs.add.Tie as tie
@@ -19,15 +18,14 @@ same-length : tie.Need-same-length
 same-length c = search needs
 
 returns : tie.Need-returns
-unfolding grown
-returns c = (rw (lt-ltb (c .before .args .len) (length (c .before .args .room .now)) (c .if1 .taken)), refl)
+returns c = (sym (grown-within (length (c .before .args .room .now)) (c .before .args .len) (c .if1 .taken)), refl)
 
 returns-2 : tie.Need-returns-2
-unfolding grown
-returns-2 c = (
-  rw (le-ltb (c .before .args .len) (length (c .before .args .room .now)) (c .if1 .left)),
-  sym (set-out (c .before .args .room .now) (c .before .args .len) (c .before .args .byte) (c .if1 .left)),
-)
+returns-2 c =
+    let asked = c .before .args in (
+      sym (grown-past (length (asked .room .now)) (asked .len) (c .if1 .left)),
+      sym (set-out (asked .room .now) (asked .len) (asked .byte) (c .if1 .left)),
+    )
 
 pub add-spec : {M : Type 1} → statement M
 add-spec = tie.close (tie.spec slice-write-room add-result same-length returns returns-2)
