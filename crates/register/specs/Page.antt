@@ -12,9 +12,9 @@ use Rattle.unit.specs.Chosen.{choose}
 use Rattle.unit.specs.Unit.{scaleOf, fieldsOf, cornerChecks, coding}
 use Rattle.unit.specs.Unit.{kindOf}
 use Rattle.lines.specs.Lines.{cut, valueAfter, isNumber, form, linesOf, spelling, replyLine, lineSaid, replies, outputOf}
-use Rattle.register.specs.Said.{codeSaid}
+use Rattle.register.specs.Said.{codeSaid, said}
 
-page : outputOf codeSaid (bytes "F 0 0 0 0 960 32 960 32 0\nF 0 0 0 0 961 32 961 32 0\n\nB 0 0 0 0 960 32 960 32 0\n")
+page : outputOf said (bytes "F 0 0 0 0 960 32 960 32 0\nF 0 0 0 0 961 32 961 32 0\n\nB 0 0 0 0 960 32 960 32 0\n")
     ≡ bytes "1 00000000001UY1120000\n2 refused 8 0\n3 refused 9 0\n4 refused 6 0\n"
 unfolding sizeOf
     afresh
