@@ -11,7 +11,7 @@ use Rattle.replies.specs.Replies.{Outcome}
 use Rattle.ground.specs.declared.Point.{Point}
 use Rattle.ground.specs.declared.Rectangle.{Rectangle}
 use Rattle.ground.specs.declared.Cell.{Cell}
-use Rattle.ground.specs.Levels.{distance, lat, lon, sizeOf}
+use Rattle.ground.specs.Levels.{distance, lat, lon, finestLevel, smallestSize, sizeOf}
 use Rattle.ground.specs.Cells.{sidesOf, centreOf, locationCell, cornerOf}
 use Rattle.ground.specs.CellTest.{isCell}
 use Rattle.code.specs.declared.Fields.{Fields}
@@ -25,27 +25,27 @@ use Rattle.unit.specs.Scale.{scale-size}
 use Rattle.unit.specs.Frame.{leaves, ending, finishing}
 
 -- A span is within a u32
-pub cells-most : (s d : ℕ) → 32 ≤ s → d < 4294967296 → s < 4294967296 → (d + (s - 1)) / s ≤ 268435456
+pub cells-most : (s d : ℕ) → smallestSize ≤ s → d < 4294967296 → s < 4294967296 → (d + (s - 1)) / s ≤ 268435456
 cells-most s d h k l =
     let q : ℕ = (d + (s - 1)) / s in
     let most : q * s ≤ d + (s - 1) = div-mul-le-self (d + (s - 1)) s in
-    let wide : q * 32 ≤ q * s = mul-le-mul-left q h in
+    let wide : q * smallestSize ≤ q * s = mul-le-mul-left q h in
     omega arith
 
--- The reference of a cell of level 27 is its own corner
-pub reference-finest : (c : Cell) → c .level ≡ 27 → cornerOf c ≡ cornerOf (locationCell c)
+-- The reference of a cell of the finest level is its own corner
+pub reference-finest : (c : Cell) → c .level ≡ finestLevel → cornerOf c ≡ cornerOf (locationCell c)
 unfolding locationCell
-reference-finest c e = rw (eq-eqb (c .level) 27 e)
+reference-finest c e = rw (eq-eqb (c .level) finestLevel e)
 
--- and of a coarser one the centre less 32
-pub reference-centre : (c : Cell) → eqb (c .level) 27 ≡ false → {p : Point} → p ≡ centreOf (sidesOf c)
-    → _≡_ {A = Point} (record { lat = lat (p .lat .0 - 32); lon = lon (p .lon .0 - 32) }) (cornerOf (locationCell c))
+-- and of a coarser one the centre less the smallest size
+pub reference-centre : (c : Cell) → eqb (c .level) finestLevel ≡ false → {p : Point} → p ≡ centreOf (sidesOf c)
+    → _≡_ {A = Point} (record { lat = lat (p .lat .0 - smallestSize); lon = lon (p .lon .0 - smallestSize) }) (cornerOf (locationCell c))
 unfolding locationCell sizeOf
 reference-centre c e {p} k = rw (e, k)
 
 -- A scale's size is one to divide by
-pub cells-size : (span : ℕ) {level s : ℕ} → level ≡ scaleOf span → s ≡ sizeOf level → 32 ≤ s
-cells-size span e k = subst (λ (x : ℕ). 32 ≤ x) (sym (k ∙ ap sizeOf e)) (scale-size span)
+pub cells-size : (span : ℕ) {level s : ℕ} → level ≡ scaleOf span → s ≡ sizeOf level → smallestSize ≤ s
+cells-size span e k = subst (λ (x : ℕ). smallestSize ≤ x) (sym (k ∙ ap sizeOf e)) (scale-size span)
 
 -- The fields of a cell from their parts
 pub fields-made : (r : Rectangle) (number : ℕ) (c : Cell) {p : Point} {span level s e w so n : ℕ} → p ≡ cornerOf (locationCell c)

@@ -7,8 +7,9 @@ pub mod SameGround
 pub mod Widening
 pub mod Scaling
 pub mod Choosing
-pub mod Cover
 pub mod Frame
+pub mod CheckLaws
+pub mod Cover
 pub mod Ending
 pub mod Framing
 pub mod Once

@@ -1,32 +1,47 @@
--- A loop that tries the levels from 27 down for the scale. Assumes nothing.
-use Prim.Native.Nat.{ℕ, suc, zero, _+_, _-_, _*_, _<_, _≤_}
-use native.Mathlib.Numerals.{sub-one}
+-- A loop that tries the levels from the finest down for the scale. Assumes nothing.
+use Prim.Native.Nat.{ℕ, suc, _+_, _-_, _*_, _<_, _≤_}
 use native.Mathlib.Omega.{arith}
 use mathlib.Core.Path.{_≡_, refl, ap, _∙_, sym}
 use mathlib.Core.Bool.{cond}
 use lib.Dec.{ltb}
 use borrow.Author.Tests.{lt-ltb, le-ltb}
-use Rattle.ground.specs.Levels.{sizeOf}
+use Rattle.ground.specs.Levels.{coarsestLevel, finestLevel, sizeOf}
 use Rattle.unit.specs.Unit.{scaleFrom, scaleOf}
 
--- Level 9 + n is tried, and then those below it
-scale-more : (span n : ℕ) → 0 < n → scaleFrom span n ≡ cond (ltb span (sizeOf (9 + n) * 32)) (9 + n) (scaleFrom span (n - 1))
-scale-more span zero h = let none : ⊥ = omega arith in absurd none
-scale-more span (suc n) h =
-    rw sub-one (ap (λ (l : ℕ). cond (ltb span (sizeOf l * 32)) l (scaleFrom span n)) (omega arith))
+-- Such a loop at a level: the level is one, and no finer one is the scale
+pub record Tried (span level : ℕ) : Type 0 where
+  pub coarsest : coarsestLevel ≤ level
+  pub finest : level ≤ finestLevel
+  pub scale : scaleOf span ≡ scaleFrom span (level - coarsestLevel)
 
--- It is the scale where its size is great enough
-pub scale-here : (span n : ℕ) → 0 < n → scaleOf span ≡ scaleFrom span n → span < sizeOf (9 + n) * 32 → 9 + n ≡ scaleOf span
-scale-here span n h e k = sym (e ∙ scale-more span n h ∙ rw (lt-ltb span (sizeOf (9 + n) * 32) k))
-
--- and else one below it is
-pub scale-below : (span n : ℕ) → 0 < n → scaleOf span ≡ scaleFrom span n → sizeOf (9 + n) * 32 ≤ span → scaleOf span ≡ scaleFrom span (n - 1)
-scale-below span n h e k = e ∙ scale-more span n h ∙ rw (le-ltb span (sizeOf (9 + n) * 32) k)
-
--- The first tried is level 27
-pub scale-begin : (span : ℕ) → scaleOf span ≡ scaleFrom span 18
+-- The first tried is the finest
+pub scale-begin : (span : ℕ) → Tried span finestLevel
 unfolding scaleOf
-scale-begin span = refl
+scale-begin span = record { coarsest = omega arith; finest = omega arith; scale = refl }
 
-pub scale-end : (span n : ℕ) → n ≤ 0 → scaleOf span ≡ scaleFrom span n → 9 ≡ scaleOf span
-scale-end span n h e = let none : n ≡ 0 = omega arith in sym (e ∙ ap (scaleFrom span) none)
+module _ {span level : ℕ} (t : Tried span level) where
+  -- A level that is not the coarsest is tried, and then those before it
+  scale-next : coarsestLevel < level → scaleOf span ≡ cond (ltb span (sizeOf level * 32)) level (scaleFrom span (level - 1 - coarsestLevel))
+  scale-next h =
+      let n : ℕ = level - 1 - coarsestLevel in
+      let count : level - coarsestLevel ≡ suc n = omega arith in
+      let same : coarsestLevel + suc n ≡ level = omega arith in
+      t .scale ∙ ap (scaleFrom span) count ∙ ap (λ (l : ℕ). cond (ltb span (sizeOf l * 32)) l (scaleFrom span n)) same
+
+  -- It is the scale where its size is great enough
+  pub scale-here : coarsestLevel < level → span < sizeOf level * 32 → level ≡ scaleOf span
+  scale-here h k = sym (scale-next h ∙ rw (lt-ltb span (sizeOf level * 32) k))
+
+  -- and else one before it is
+  pub scale-before : coarsestLevel < level → sizeOf level * 32 ≤ span → Tried span (level - 1)
+  scale-before h k = record {
+    coarsest = omega arith;
+    finest = omega (arith, t .finest);
+    scale = scale-next h ∙ rw (le-ltb span (sizeOf level * 32) k);
+  }
+
+  -- The last is the coarsest
+  pub scale-end : level ≤ coarsestLevel → coarsestLevel ≡ scaleOf span
+  scale-end h =
+      let none : level - coarsestLevel ≡ 0 = omega arith in
+      sym (t .scale ∙ ap (scaleFrom span) none)

@@ -1,24 +1,63 @@
-// Coding's checks 1 to 6, in order.
+// Coding's checks before a cell is looked for, table by table.
 ghost use Prim.Native.Nat.{_/_, _≤_};
 ghost use mathlib.Core.Path.{_≡_};
-ghost use mathlib.Core.Bool.{_||_};
-ghost use lib.Dec.{ltb};
-ghost use lib.ListN.{length, take};
+ghost use lib.ListN.{length};
 ghost use Rattle.replies.specs.Replies.{run};
 ghost use Rattle.boundary.specs.Corners.{cornersOf};
-ghost use Rattle.unit.specs.Extents.{latExtent, lonExtent};
-ghost use Rattle.unit.specs.Unit.{badNumber, cornerChecks};
+ghost use Rattle.unit.specs.Unit.{aboveDegree, badNumber, roomCheck, shapeChecks, groundChecks, numberCheck};
 ghost use Rattle.unit.specs.Frame.{says, firstChecks};
 use crate::Coded;
 use crate::Kind;
+use crate::coded_number;
 use crate::extents;
+use ground::DEGREE;
 use ground::Rectangle;
 
-// Whether one of the extents is above 1°.
-fn wide(r: Rectangle) -> bool
-    ensures { λ w. ⌜ w ≡ (ltb 7372800 (latExtent r) || ltb 7372800 (lonExtent r)) ⌝ }
+// What check 1 says of so many bytes of room.
+fn room_check(room: usize) -> Coded
+    ensures { λ r. ⌜ says r ≡ run (roomCheck room) ⌝ }
 {
-    7372800 < extents::lat_extent(r) || 7372800 < extents::lon_extent(r)
+    if room < 20 {
+        return Coded::Output;
+    }
+    Coded::Accepted
+}
+
+// What checks 2 and 3 say.
+fn shape_checks(numbers: &[u32]) -> Coded
+    ensures { λ r. ⌜ says r ≡ run (shapeChecks (now (numbers .entry))) ⌝ }
+{
+    if numbers.len() % 2 == 1 {
+        return Coded::Pairs;
+    }
+    let count = numbers.len() / 2;
+    if count < 3 || 1024 < count {
+        return Coded::Corners;
+    }
+    Coded::Accepted
+}
+
+// Whether one of the extents is above 1°.
+fn above_degree(r: Rectangle) -> bool
+    ensures { λ w. ⌜ w ≡ aboveDegree r ⌝ }
+{
+    DEGREE < extents::lat_extent(r) || DEGREE < extents::lon_extent(r)
+}
+
+// What checks 4 and 5 say of at most 1,024 corners.
+fn ground_checks(numbers: &[u32]) -> Coded
+    requires { ⌜ length (now numbers) / 2 ≤ 1024 ⌝ }
+    ensures { λ r. ⌜ says r ≡ run (groundChecks (cornersOf (now (numbers .entry)))) ⌝ }
+{
+    let above = extents::first_above(numbers);
+    if above < numbers.len() / 2 {
+        let corner = above as u32;
+        return Coded::Range(corner);
+    }
+    if above_degree(extents::extremes(numbers)) {
+        return Coded::Extent;
+    }
+    Coded::Accepted
 }
 
 // Whether a number is none that a unit of a kind can have.
@@ -31,18 +70,10 @@ fn bad_number(kind: Kind, number: u32) -> bool
     }
 }
 
-// What checks 4 to 6 say of at most 1,024 corners.
-fn corner_checks(numbers: &[u32], kind: Kind, number: u32) -> Coded
-    requires { ⌜ length (now numbers) / 2 ≤ 1024 ⌝ }
-    ensures { λ r. ⌜ says r ≡ run (take 3 (cornerChecks (cornersOf (now (numbers .entry))) kind number)) ⌝ }
+// What check 6 says.
+fn number_check(kind: Kind, number: u32) -> Coded
+    ensures { λ r. ⌜ says r ≡ run (numberCheck kind number) ⌝ }
 {
-    let above = extents::first_above(numbers);
-    if above < numbers.len() / 2 {
-        return Coded::Range(above as u32);
-    }
-    if wide(extents::extremes(numbers)) {
-        return Coded::Extent;
-    }
     if bad_number(kind, number) {
         return Coded::Number;
     }
@@ -54,15 +85,17 @@ fn corner_checks(numbers: &[u32], kind: Kind, number: u32) -> Coded
 pub fn checks(room: usize, numbers: &[u32], kind: Kind, number: u32) -> Coded
     ensures { λ r. ⌜ says r ≡ run (firstChecks room (now (numbers .entry)) kind number) ⌝ }
 {
-    if room < 20 {
-        return Coded::Output;
+    let roomy = room_check(room);
+    if coded_number(roomy) != 0 {
+        return roomy;
     }
-    if numbers.len() % 2 == 1 {
-        return Coded::Pairs;
+    let shaped = shape_checks(numbers);
+    if coded_number(shaped) != 0 {
+        return shaped;
     }
-    let count = numbers.len() / 2;
-    if count < 3 || 1024 < count {
-        return Coded::Corners;
+    let grounded = ground_checks(numbers);
+    if coded_number(grounded) != 0 {
+        return grounded;
     }
-    corner_checks(numbers, kind, number)
+    number_check(kind, number)
 }

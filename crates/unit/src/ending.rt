@@ -1,6 +1,7 @@
 // The end of coding around what a search hands in: the fields of a cell, and the writing of its code.
 ghost use mathlib.Core.Path.{_≡_};
 ghost use Prim.Native.Nat.{_≤_};
+ghost use Rattle.ground.specs.Levels.{smallestSize};
 ghost use Rattle.ground.specs.Cells.{sidesOf, locationCell, cornerOf};
 ghost use Rattle.code.specs.Code.{writing};
 ghost use Rattle.unit.specs.Extents.{spanOf};
@@ -13,10 +14,12 @@ use crate::extents;
 use crate::scale_of;
 use code::Fields;
 use ground::Cell;
+use ground::FINEST;
 use ground::Lat;
 use ground::Lon;
 use ground::Point;
 use ground::Rectangle;
+use ground::SMALLEST;
 use ground::Sides;
 
 // The larger of the two extents.
@@ -30,7 +33,7 @@ fn span(r: Rectangle) -> u32
 
 // A distance, divided by a size and rounded up, plus 1.
 fn span_cells(s: u32, d: u32) -> u32
-    requires { ⌜ 32 ≤ s ⌝ }
+    requires { ⌜ smallestSize ≤ s ⌝ }
     ensures { λ r. ⌜ r ≡ spanCells s d ⌝ }
 {
     ((d as u64 + (s as u64 - 1)) / s as u64 + 1) as u32
@@ -43,7 +46,7 @@ fn reference(c: Cell, sides: Rectangle) -> Point
 {
     let west = c.west;
     let south = c.south;
-    if c.level == 27 {
+    if c.level == FINEST {
         return Point {
             lat: south,
             lon: west,
@@ -53,8 +56,8 @@ fn reference(c: Cell, sides: Rectangle) -> Point
     let lat = p.lat;
     let lon = p.lon;
     Point {
-        lat: Lat(extents::less(lat.0, 32)),
-        lon: Lon(extents::less(lon.0, 32)),
+        lat: Lat(extents::less(lat.0, SMALLEST)),
+        lon: Lon(extents::less(lon.0, SMALLEST)),
     }
 }
 

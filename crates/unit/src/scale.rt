@@ -1,17 +1,19 @@
 // The scale of a span.
 ghost use mathlib.Core.Path.{_≡_};
 ghost use Rattle.unit.specs.Unit.{scaleOf};
+use ground::COARSEST;
+use ground::FINEST;
 
-// The finest level, at most 27, whose nominal size times 32 is greater than a span; 9 where none is.
+// The finest level, at most 27, whose nominal size times 32 is greater than a span; the coarsest where none is.
 pub fn scale_of(span: u32) -> u32
     ensures { λ r. ⌜ r ≡ scaleOf span ⌝ }
 {
-    let mut n = 18;
-    while 0 < n {
-        if span < ground::size(9 + n) * 32 {
-            return 9 + n;
+    let mut level = FINEST;
+    while COARSEST < level {
+        if span < ground::size(level) * 32 {
+            return level;
         }
-        n -= 1;
+        level -= 1;
     }
-    9
+    COARSEST
 }

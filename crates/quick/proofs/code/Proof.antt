@@ -1,6 +1,6 @@
 -- `quick::code` meets its contract: the frame around the chosen cell. Assumes nothing.
 use mathlib.Core.Path.{sym, _∙_}
-use Rattle.unit.specs.Framing.{road-refused, road-range, road-few, road-ends}
+use Rattle.unit.specs.Framing.{road-refused, road-entered, road-ends}
 use Rattle.unit.specs.Choosing.{over-range}
 use borrow.Author.Needs.{needs}
 use Rattle.quick.proofs.code.Statement.{statement}
@@ -25,11 +25,10 @@ chosen-requires : tie.Need-chosen-requires
 chosen-requires c κs =
     let checked = c .before .before .before .before in
     let a = checked .before .before .before .args in
-    let passed = sym (c .before .before .before .coded-number .ensures) ∙ c .before .before .if1 .left in
-    let range = road-range (a .room .now) (a .numbers .now) (a .kind) (a .number) (checked .checks .result) (checked .checks .ensures) passed in (
-      road-few (a .room .now) (a .numbers .now) (a .kind) (a .number) (checked .checks .result) (checked .checks .ensures) passed,
-      (over-range (c .before .extremes .ensures) range, range),
-    )
+    let h =
+    road-entered (a .room .now) (a .numbers .now) (a .kind) (a .number) (checked .checks .result) (checked .checks .ensures)
+    (sym (c .before .before .before .coded-number .ensures) ∙ c .before .before .if1 .left) in
+    (h .shape .most, (over-range (c .before .extremes .ensures) (h .ground .range), h .ground .range))
 
 finish-requires : tie.Need-finish-requires
 finish-requires c κs = search needs

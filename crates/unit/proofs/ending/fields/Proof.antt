@@ -1,6 +1,7 @@
 -- `unit::ending::fields` meets its contract: each field from its part. Assumes nothing.
 use Prim.Native.Nat.{ℕ, _≤_}
 use mathlib.Core.Path.{ap, _∙_}
+use Rattle.ground.specs.Levels.{smallestSize}
 use Rattle.unit.specs.Unit.{spanCells}
 use Rattle.unit.specs.Ending.{cells-size, fields-made}
 use borrow.Author.Needs.{needs}
@@ -8,7 +9,7 @@ use Rattle.unit.proofs.ending.fields.Statement.{statement}
 use Rattle.unit.proofs.ending.fields.Tie as tie
 
 -- the scale's size
-size : (c : tie.After-size) → 32 ≤ c .size .result
+size : (c : tie.After-size) → smallestSize ≤ c .size .result
 size c = cells-size (c .before .before .span .result) (c .before .scale-of .ensures) (c .size .ensures)
 
 reference-requires : tie.Need-reference-requires

@@ -1,10 +1,10 @@
--- `unit::ending::reference` meets its contract: the cell's own corner at level 27, else its centre less 32. Assumes nothing.
+-- `unit::ending::reference` meets its contract: the cell's own corner at the finest level, else its centre less the smallest size. Assumes nothing.
 use mathlib.Core.Path.{ap, ap₂, _∙_}
 use borrow.Author.Tests.{ne-eqb}
 use Prim.Native.Nat.{ℕ}
 use Rattle.ground.specs.declared.Point.{Point}
 use Rattle.ground.specs.Cells.{centreOf}
-use Rattle.ground.specs.Levels.{lat, lon}
+use Rattle.ground.specs.Levels.{lat, lon, finestLevel}
 use Rattle.unit.specs.Ending.{reference-finest, reference-centre}
 use borrow.Author.Needs.{needs}
 use Rattle.unit.proofs.ending.reference.Statement.{statement}
@@ -28,7 +28,7 @@ returns-2 c =
     let a = ce .before .before .before .before .before .args in
     let at : ℕ → ℕ → Point = λ x y. record { lat = lat x; lon = lon y } in
     ap₂ at (c .before .less .ensures) (c .less2 .ensures)
-    ∙ reference-centre (a .c) (ne-eqb (a .c .level) 27 (ce .before .if1 .left)) (ce .centre .ensures ∙ ap centreOf (ce .before .before .before .before .before .pre))
+    ∙ reference-centre (a .c) (ne-eqb (a .c .level) finestLevel (ce .before .if1 .left)) (ce .centre .ensures ∙ ap centreOf (ce .before .before .before .before .before .pre))
 
 pub reference-spec : {M : Type 1} → statement M
 reference-spec =

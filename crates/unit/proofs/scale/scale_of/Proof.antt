@@ -1,31 +1,27 @@
--- `unit::scale::scale_of` meets its contract: no finer level than 9 + n is the scale. Assumes nothing.
-use Prim.Native.Nat.{ℕ, _+_, _*_, _≤_, _<_}
+-- `unit::scale::scale_of` meets its contract: no level finer than the one tried is the scale. Assumes nothing.
+use Prim.Native.Nat.{ℕ, _*_, _≤_, _<_}
 use native.Mathlib.Omega.{arith}
-use mathlib.Core.Path.{_≡_, sym, subst}
+use mathlib.Core.Path.{sym, subst}
 use borrow.Author.Needs.{needs}
-use Rattle.ground.specs.Levels.{sizeOf}
+use Rattle.ground.specs.Levels.{degree, sizeOf}
 use Rattle.ground.specs.Sizes.{size-most}
-use Rattle.unit.specs.Unit.{scaleFrom, scaleOf}
-use Rattle.unit.specs.Scaling.{scale-begin, scale-here, scale-below, scale-end}
+use Rattle.unit.specs.Scaling.{Tried, scale-begin, scale-here, scale-before, scale-end}
 use Rattle.unit.proofs.scale.scale_of.Statement.{statement}
 use Rattle.unit.proofs.scale.scale_of.Tie as tie
 
 abbrev Inv-loop : tie.InvT-loop
-Inv-loop span n₀ n = (n ≤ 18) × (scaleOf span ≡ scaleFrom span n)
+Inv-loop span level₀ level = Tried span level
 
 abbrev μ-loop : tie.MeasureT-loop
-μ-loop span n₀ n = n
+μ-loop span level₀ level = level
 
-most : (c : tie.After-size Inv-loop μ-loop) → c .size .result ≤ 7372800
+most : (c : tie.After-size Inv-loop μ-loop) → c .size .result ≤ degree
 most c =
-    let n = c .before .before .loop .n in
-    subst (λ (k : ℕ). k ≤ 7372800) (sym (c .size .ensures)) (size-most (9 + n) (search needs) (search needs))
+    let l = c .before .before .loop in
+    subst (λ (k : ℕ). k ≤ degree) (sym (c .size .ensures)) (size-most (l .level) (l .inv .coarsest) (l .inv .finest))
 
 loop-holds : tie.Need-loop-holds Inv-loop μ-loop
-loop-holds c = (omega arith, scale-begin (c .args .span))
-
-add-size : tie.Need-add-size Inv-loop μ-loop
-add-size c = search needs
+loop-holds c = scale-begin (c .args .span)
 
 size-requires : tie.Need-size-requires Inv-loop μ-loop
 size-requires c κs = search needs
@@ -33,19 +29,14 @@ size-requires c κs = search needs
 mul-if1 : tie.Need-mul-if1 Inv-loop μ-loop
 mul-if1 c = omega (arith, most c)
 
-add-result : tie.Need-add-result Inv-loop μ-loop
-add-result c = search needs
-
 returns : tie.Need-returns Inv-loop μ-loop
 returns c =
     let at = c .before .before .before in
-    let n = at .loop .n in
-    let wide : at .before .args .span < sizeOf (9 + n) * 32 =
-    subst (λ (k : ℕ). at .before .args .span < k * 32) (c .before .size .ensures) (c .if1 .taken) in
-    scale-here (at .before .args .span) n (search needs) (at .loop .inv .1) wide
+    let span = at .before .args .span in
+    scale-here (at .loop .inv) (search needs) (subst (λ (s : ℕ). span < s * 32) (c .before .size .ensures) (c .if1 .taken))
 
-sub-n : tie.Need-sub-n Inv-loop μ-loop
-sub-n c = search needs
+sub-level : tie.Need-sub-level Inv-loop μ-loop
+sub-level c = search needs
 
 loop-less : tie.Need-loop-less Inv-loop μ-loop
 loop-less c = search needs
@@ -53,13 +44,11 @@ loop-less c = search needs
 loop-again : tie.Need-loop-again Inv-loop μ-loop
 loop-again c =
     let at = c .before .before .before in
-    let n = at .loop .n in
-    let narrow : sizeOf (9 + n) * 32 ≤ at .before .args .span =
-    subst (λ (k : ℕ). k * 32 ≤ at .before .args .span) (c .before .size .ensures) (c .if1 .left) in
-    (omega arith, scale-below (at .before .args .span) n (search needs) (at .loop .inv .1) narrow)
+    let span = at .before .args .span in
+    scale-before (at .loop .inv) (search needs) (subst (λ (s : ℕ). s * 32 ≤ span) (c .before .size .ensures) (c .if1 .left))
 
 returns-2 : tie.Need-returns-2 Inv-loop μ-loop
-returns-2 c = scale-end (c .before .before .args .span) (c .before .loop .n) (search needs) (c .before .loop .inv .1)
+returns-2 c = scale-end (c .before .loop .inv) (search needs)
 
 pub scale-of-spec : {M : Type 1} → statement M
 scale-of-spec =
@@ -68,12 +57,10 @@ scale-of-spec =
     Inv-loop
     μ-loop
     loop-holds
-    add-size
     size-requires
     mul-if1
-    add-result
     returns
-    sub-n
+    sub-level
     loop-less
     loop-again
     returns-2)
