@@ -1,7 +1,7 @@
 // The end of coding around what a search hands in: the fields of a cell, and the writing of its code.
 ghost use mathlib.Core.Path.{_≡_};
 ghost use Prim.Native.Nat.{_≤_};
-ghost use Rattle.ground.specs.Levels.{smallestSize};
+ghost use Rattle.ground.specs.Levels.{distance, smallestSize};
 ghost use Rattle.ground.specs.Cells.{sidesOf, locationCell, cornerOf};
 ghost use Rattle.code.specs.Code.{writing};
 ghost use Rattle.unit.specs.Extents.{spanOf};
@@ -31,11 +31,12 @@ fn span(r: Rectangle) -> u32
     if lat < lon { lon } else { lat }
 }
 
-// A distance, divided by a size and rounded up, plus 1.
-fn span_cells(s: u32, d: u32) -> u32
+// The distance of two angles of one direction, divided by a size and rounded up, plus 1.
+fn span_cells(s: u32, from: u32, to: u32) -> u32
     requires { ⌜ smallestSize ≤ s ⌝ }
-    ensures { λ r. ⌜ r ≡ spanCells s d ⌝ }
+    ensures { λ r. ⌜ r ≡ spanCells s (distance from to) ⌝ }
 {
+    let d = ground::apart(from, to);
     ((d as u64 + (s as u64 - 1)) / s as u64 + 1) as u32
 }
 
@@ -78,10 +79,10 @@ fn fields(r: Rectangle, number: u32, c: Cell, sides: Rectangle) -> Fields
     Fields {
         reference: p,
         scale: level,
-        east: span_cells(s, ground::apart(lon.0, east.0)),
-        west: span_cells(s, ground::apart(lon.0, west.0)),
-        south: span_cells(s, ground::apart(lat.0, south.0)),
-        north: span_cells(s, ground::apart(lat.0, north.0)),
+        east: span_cells(s, lon.0, east.0),
+        west: span_cells(s, lon.0, west.0),
+        south: span_cells(s, lat.0, south.0),
+        north: span_cells(s, lat.0, north.0),
         number,
     }
 }

@@ -1,8 +1,6 @@
 -- `unit::ending::fields` meets its contract: each field from its part. Assumes nothing.
-use Prim.Native.Nat.{ℕ, _≤_}
-use mathlib.Core.Path.{ap, _∙_}
+use Prim.Native.Nat.{_≤_}
 use Rattle.ground.specs.Levels.{smallestSize}
-use Rattle.unit.specs.Unit.{spanCells}
 use Rattle.unit.specs.Ending.{cells-size, fields-made}
 use borrow.Author.Needs.{needs}
 use Rattle.unit.proofs.ending.fields.Statement.{statement}
@@ -24,45 +22,28 @@ scale-of-requires c κs = search needs
 size-requires : tie.Need-size-requires
 size-requires c κs = search needs
 
-apart-requires : tie.Need-apart-requires
-apart-requires c κs = search needs
-
 span-cells-requires : tie.Need-span-cells-requires
-span-cells-requires c κs = size (c .before)
-
-apart-requires-2 : tie.Need-apart-requires-2
-apart-requires-2 c κs = search needs
+span-cells-requires c κs = size c
 
 span-cells-requires-2 : tie.Need-span-cells-requires-2
-span-cells-requires-2 c κs = size (c .before .before .before)
-
-apart-requires-3 : tie.Need-apart-requires-3
-apart-requires-3 c κs = search needs
+span-cells-requires-2 c κs = size (c .before)
 
 span-cells-requires-3 : tie.Need-span-cells-requires-3
-span-cells-requires-3 c κs = size (c .before .before .before .before .before)
-
-apart-requires-4 : tie.Need-apart-requires-4
-apart-requires-4 c κs = search needs
+span-cells-requires-3 c κs = size (c .before .before)
 
 span-cells-requires-4 : tie.Need-span-cells-requires-4
-span-cells-requires-4 c κs = size (c .before .before .before .before .before .before .before)
+span-cells-requires-4 c κs = size (c .before .before .before)
 
 returns : tie.Need-returns
 returns c =
-    let c3 = c .before .before in
-    let c2 = c3 .before .before in
-    let c1 = c2 .before .before in
-    let cs = c1 .before .before in
+    let c3 = c .before in
+    let c2 = c3 .before in
+    let c1 = c2 .before in
+    let cs = c1 .before in
     let p = cs .before .before .before .before .before .before .before .before .before in
     let a = p .before .args in
-    let s : ℕ = cs .size .result in
     fields-made (a .r) (a .number) (a .c) (p .reference .ensures) (cs .before .before .span .ensures) (cs .before .scale-of .ensures)
-    (cs .size .ensures)
-    (c1 .span-cells .ensures ∙ ap (spanCells s) (c1 .before .apart .ensures))
-    (c2 .span-cells2 .ensures ∙ ap (spanCells s) (c2 .before .apart2 .ensures))
-    (c3 .span-cells3 .ensures ∙ ap (spanCells s) (c3 .before .apart3 .ensures))
-    (c .span-cells4 .ensures ∙ ap (spanCells s) (c .before .apart4 .ensures))
+    (cs .size .ensures) (c1 .span-cells .ensures) (c2 .span-cells2 .ensures) (c3 .span-cells3 .ensures) (c .span-cells4 .ensures)
 
 pub fields-spec : {M : Type 1} → statement M
 fields-spec =
@@ -72,12 +53,8 @@ fields-spec =
     span-requires
     scale-of-requires
     size-requires
-    apart-requires
     span-cells-requires
-    apart-requires-2
     span-cells-requires-2
-    apart-requires-3
     span-cells-requires-3
-    apart-requires-4
     span-cells-requires-4
     returns)

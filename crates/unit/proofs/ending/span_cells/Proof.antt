@@ -1,9 +1,18 @@
--- `unit::ending::span_cells` meets its contract: a size of 32 or more keeps the quotient small. Assumes nothing.
+-- `unit::ending::span_cells` meets its contract: a size that is not below the smallest keeps the quotient small. Assumes nothing.
+use Prim.Native.Nat.{_+_, _-_, _/_, _≤_}
 use native.Mathlib.Omega.{arith}
+use mathlib.Core.Path.{ap}
+use Rattle.unit.specs.Unit.{spanCells}
 use Rattle.unit.specs.Ending.{cells-most}
 use borrow.Author.Needs.{needs}
 use Rattle.unit.proofs.ending.span_cells.Statement.{statement}
 use Rattle.unit.proofs.ending.span_cells.Tie as tie
+
+apart-requires : tie.Need-apart-requires
+apart-requires c κs = search needs
+
+cast-result : tie.Need-cast-result
+cast-result c = search needs
 
 sub-result : tie.Need-sub-result
 sub-result c = search needs
@@ -14,15 +23,28 @@ add-result c = search needs
 div-result : tie.Need-div-result
 div-result c = search needs
 
-add-result-2 : tie.Need-add-result-2
-add-result-2 c = omega (arith, cells-most (c .args .s) (c .args .d) (search needs) (search needs) (search needs))
+-- the quotient is small
+few : (c : tie.After-apart) → (c .apart .result + (c .before .args .s - 1)) / c .before .args .s ≤ 268435456
+few c = cells-most (c .before .args .s) (c .apart .result) (search needs) (search needs) (search needs)
 
-cast-result : tie.Need-cast-result
-cast-result c = omega (arith, cells-most (c .args .s) (c .args .d) (search needs) (search needs) (search needs))
+add-result-2 : tie.Need-add-result-2
+add-result-2 c = omega (arith, few c)
+
+cast-result-2 : tie.Need-cast-result-2
+cast-result-2 c = omega (arith, few c)
 
 returns : tie.Need-returns
-returns c = search needs
+returns c = ap (spanCells (c .before .args .s)) (c .apart .ensures)
 
 pub span-cells-spec : {M : Type 1} → statement M
 span-cells-spec =
-    tie.close (tie.spec sub-result add-result div-result add-result-2 cast-result returns)
+    tie.close
+    (tie.spec
+    apart-requires
+    cast-result
+    sub-result
+    add-result
+    div-result
+    add-result-2
+    cast-result-2
+    returns)
