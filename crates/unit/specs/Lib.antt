@@ -10,6 +10,6 @@ pub mod Choosing
 pub mod Frame
 pub mod CheckLaws
 pub mod Cover
-pub mod Ending
-pub mod Framing
+pub mod FrameLaws
+pub mod FieldsLaws
 pub mod Once

@@ -1,7 +1,7 @@
 -- `plain::code` meets its contract: the frame around the chosen cell. Assumes nothing.
 use mathlib.Core.Path.{sym, _∙_}
 use borrow.Author.Needs.{needs}
-use Rattle.unit.specs.Framing.{road-refused, road-entered, road-ends}
+use Rattle.unit.specs.FrameLaws.{road-refused, road-entered, road-ends}
 use Rattle.unit.specs.Choosing.{over-range}
 use Rattle.plain.proofs.code.Statement.{statement}
 use Rattle.plain.proofs.code.Tie as tie

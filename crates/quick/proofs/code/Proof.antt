@@ -1,6 +1,6 @@
 -- `quick::code` meets its contract: the frame around the chosen cell. Assumes nothing.
 use mathlib.Core.Path.{sym, _∙_}
-use Rattle.unit.specs.Framing.{road-refused, road-entered, road-ends}
+use Rattle.unit.specs.FrameLaws.{road-refused, road-entered, road-ends}
 use Rattle.unit.specs.Choosing.{over-range}
 use borrow.Author.Needs.{needs}
 use Rattle.quick.proofs.code.Statement.{statement}

@@ -1,6 +1,6 @@
 -- `unit::ending::end` meets its contract: acceptance where writing says 0, else 8. Assumes nothing.
 use mathlib.Core.Path.{sym, _∙_}
-use Rattle.unit.specs.Ending.{ends, ends-not}
+use Rattle.unit.specs.FrameLaws.{ends, ends-not}
 use borrow.Author.Needs.{needs}
 use Rattle.unit.proofs.ending.end.Statement.{statement}
 use Rattle.unit.proofs.ending.end.Tie as tie

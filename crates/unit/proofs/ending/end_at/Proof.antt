@@ -6,7 +6,7 @@ use Rattle.ground.specs.CellTest.{isCell, found-of, found-none}
 use Rattle.code.specs.declared.Fields.{Fields}
 use Rattle.code.specs.Code.{writing}
 use Rattle.unit.specs.Frame.{ending}
-use Rattle.unit.specs.Ending.{finish-cell, finish-none}
+use Rattle.unit.specs.FrameLaws.{finish-cell, finish-none}
 use borrow.Author.Needs.{needs}
 use Rattle.unit.proofs.ending.end_at.Statement.{statement}
 use Rattle.unit.proofs.ending.end_at.Tie as tie

@@ -1,7 +1,7 @@
 -- `unit::ending::fields` meets its contract: each field from its part. Assumes nothing.
 use Prim.Native.Nat.{_≤_}
 use Rattle.ground.specs.Levels.{smallestSize}
-use Rattle.unit.specs.Ending.{cells-size, fields-made}
+use Rattle.unit.specs.FieldsLaws.{cells-size, fields-made}
 use borrow.Author.Needs.{needs}
 use Rattle.unit.proofs.ending.fields.Statement.{statement}
 use Rattle.unit.proofs.ending.fields.Tie as tie

@@ -1,7 +1,7 @@
 -- `unit::ending::finish` meets its contract: around a cell, or none. Assumes nothing.
 use mathlib.Core.Path.{ap, sym, _∙_}
 use Rattle.unit.specs.Frame.{finishing}
-use Rattle.unit.specs.Ending.{finish-nowhere}
+use Rattle.unit.specs.FrameLaws.{finish-nowhere}
 use borrow.Author.Needs.{needs}
 use Rattle.unit.proofs.ending.finish.Statement.{statement}
 use Rattle.unit.proofs.ending.finish.Tie as tie

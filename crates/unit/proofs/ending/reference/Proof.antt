@@ -5,7 +5,7 @@ use Prim.Native.Nat.{ℕ}
 use Rattle.ground.specs.declared.Point.{Point}
 use Rattle.ground.specs.Cells.{centreOf}
 use Rattle.ground.specs.Levels.{lat, lon, finestLevel}
-use Rattle.unit.specs.Ending.{reference-finest, reference-centre}
+use Rattle.unit.specs.FieldsLaws.{reference-finest, reference-centre}
 use borrow.Author.Needs.{needs}
 use Rattle.unit.proofs.ending.reference.Statement.{statement}
 use Rattle.unit.proofs.ending.reference.Tie as tie

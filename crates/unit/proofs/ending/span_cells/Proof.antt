@@ -3,7 +3,7 @@ use Prim.Native.Nat.{_+_, _-_, _/_, _≤_}
 use native.Mathlib.Omega.{arith}
 use mathlib.Core.Path.{ap}
 use Rattle.unit.specs.Unit.{spanCells}
-use Rattle.unit.specs.Ending.{cells-most}
+use Rattle.unit.specs.FieldsLaws.{cells-most}
 use borrow.Author.Needs.{needs}
 use Rattle.unit.proofs.ending.span_cells.Statement.{statement}
 use Rattle.unit.proofs.ending.span_cells.Tie as tie

@@ -1,28 +1,20 @@
--- The laws of the end of coding: a cell's reference, its fields from their parts, and what writing comes to. Assumes nothing.
+-- The fields of a unit from their parts: a cell's reference, and the spans from it. Assumes nothing.
 use Prim.Native.Nat.{ℕ, _+_, _-_, _*_, _/_, _≤_, _<_}
 use native.Mathlib.Nat.{div-mul-le-self, mul-le-mul-left}
 use native.Mathlib.Omega.{arith}
-use mathlib.Core.Path.{_≡_, refl, ap, sym, subst, _∙_}
-use mathlib.Core.Bool.{true, false}
-use mathlib.Core.List.{List}
+use mathlib.Core.Path.{_≡_, ap, sym, subst, _∙_}
+use mathlib.Core.Bool.{false}
 use lib.Dec.{eqb}
-use borrow.Author.Tests.{eq-eqb, ne-eqb}
-use Rattle.replies.specs.Replies.{Outcome}
+use borrow.Author.Tests.{eq-eqb}
 use Rattle.ground.specs.declared.Point.{Point}
 use Rattle.ground.specs.declared.Rectangle.{Rectangle}
 use Rattle.ground.specs.declared.Cell.{Cell}
 use Rattle.ground.specs.Levels.{distance, lat, lon, finestLevel, smallestSize, sizeOf}
 use Rattle.ground.specs.Cells.{sidesOf, centreOf, locationCell, cornerOf}
-use Rattle.ground.specs.CellTest.{isCell}
 use Rattle.code.specs.declared.Fields.{Fields}
-use Rattle.code.specs.declared.Written.{Written}
-use Rattle.code.specs.Code as code
-use Rattle.unit.specs.declared.Choice.the-variants.{At, Nowhere}
-use Rattle.unit.specs.declared.Coded.the-variants as coded
 use Rattle.unit.specs.Extents.{spanOf}
 use Rattle.unit.specs.Unit.{scaleOf, spanCells, fieldsOf}
 use Rattle.unit.specs.Scale.{scale-size}
-use Rattle.unit.specs.Frame.{leaves, ending, finishing}
 
 -- A span is within a u32
 pub cells-most : (s d : ℕ) → smallestSize ≤ s → d < 4294967296 → s < 4294967296 → (d + (s - 1)) / s ≤ 268435456
@@ -56,28 +48,3 @@ pub fields-made : (r : Rectangle) (number : ℕ) (c : Cell) {p : Point} {span le
     (fieldsOf r number c)
 unfolding fieldsOf
 fields-made r number c hp hr hl hs he hw ho hn = rw (he, hw, ho, hn, hs, hl, hr, hp)
-
--- Writing that accepts ends in acceptance, and else in 8; the room is as writing left it
-pub ends : (o : Outcome) (answer : Written) (room : List ℕ) → code.leaves answer room ≡ o → code.says answer .number ≡ 0
-    → leaves coded.Accepted room ≡ ending o
-ends o answer room e k = rw (sym e, eq-eqb (code.says answer .number) 0 k)
-
-pub ends-not : (o : Outcome) (answer : Written) (room : List ℕ) → code.leaves answer room ≡ o → (code.says answer .number ≡ 0 → ⊥)
-    → leaves coded.Span room ≡ ending o
-ends-not o answer room e k = rw (sym e, ne-eqb (code.says answer .number) 0 k)
-
--- The end around a cell is writing from its fields, and around what is none 7
-pub finish-cell : (room : List ℕ) (r : Rectangle) (number : ℕ) (c : Cell) → isCell c ≡ true
-    → ending (code.writing room (fieldsOf r number c)) ≡ finishing room r number (At c)
-unfolding finishing
-finish-cell room r number c e = rw e
-
-pub finish-none : (room : List ℕ) (r : Rectangle) (number : ℕ) (c : Cell) → isCell c ≡ false
-    → leaves coded.NoCell room ≡ finishing room r number (At c)
-unfolding finishing
-finish-none room r number c e = rw e
-
--- Around no cell it is 7
-pub finish-nowhere : (room : List ℕ) (r : Rectangle) (number : ℕ) → leaves coded.NoCell room ≡ finishing room r number Nowhere
-unfolding finishing
-finish-nowhere room r number = refl

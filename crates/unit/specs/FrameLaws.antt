@@ -1,5 +1,5 @@
--- The frame makes coding whole: where one of checks 1 to 6 refuses, coding says what it says and leaves the room; else coding is its end
--- around the chosen cell. Assumes nothing.
+-- The laws of the frame: its end around a cell and around none, and that it makes coding whole. Where one of checks 1 to 6 refuses, coding
+-- says what it says and leaves the room; else coding is its end around the chosen cell. Assumes nothing.
 use Prim.Native.Nat.{ℕ, _≤_}
 use native.Mathlib.Omega.{arith}
 use mathlib.Core.Path.{_≡_, refl, ap, ap₂, sym, _∙_}
@@ -7,18 +7,22 @@ use mathlib.Core.Bool.{Bool, true, false, cond, true≢false}
 use mathlib.Core.List.{List, [], _∷_, _++_}
 use lib.Dec.{eqb}
 use lib.ListN.{length, drop, length-drop, length-append}
-use borrow.Author.Tests.{ne-eqb, le-ltb}
+use borrow.Author.Tests.{eq-eqb, ne-eqb, le-ltb}
 use Rattle.replies.specs.Replies.{Said, Check, check, run, Outcome, outcome}
 use Rattle.replies.specs.RepliesLaws.{run-first, run-second}
 use Rattle.facts.specs.Tests.{none-of}
 use Rattle.ground.specs.declared.Rectangle.{Rectangle}
-use Rattle.ground.specs.CellTest.{is-cell}
+use Rattle.ground.specs.declared.Cell.{Cell}
+use Rattle.ground.specs.CellTest.{isCell, is-cell}
 use Rattle.code.specs.declared.Fields.{Fields}
+use Rattle.code.specs.declared.Written.{Written}
+use Rattle.code.specs.Code as code
 use Rattle.code.specs.Code.{writing, codeOf}
 use Rattle.code.specs.Writing.{code-twenty, Good, good-writing, zero-writing, refused-writing}
 use Rattle.boundary.specs.Corners.{cornersOf}
 use Rattle.unit.specs.declared.Kind.{Kind}
 use Rattle.unit.specs.declared.Coded.{Coded}
+use Rattle.unit.specs.declared.Coded.the-variants as coded
 use Rattle.unit.specs.declared.Choice.{Choice}
 use Rattle.unit.specs.declared.Choice.the-variants.{At, Nowhere}
 use Rattle.unit.specs.Extents.{extremesOf}
@@ -26,10 +30,34 @@ use Rattle.unit.specs.Unit.{fieldsOf, above31, cellChecks, codeAt, chose
 use Rattle.unit.specs.CheckLaws.{Entered, entered}
 use Rattle.unit.specs.Cover.{fields-good, chosen-inside, passing}
 use Rattle.unit.specs.Frame.{says, leaves, ending, firstChecks, finishing}
-use Rattle.unit.specs.Ending.{finish-cell, finish-nowhere}
+
+-- Writing that accepts ends in acceptance, and else in 8; the room is as writing left it
+pub ends : (o : Outcome) (answer : Written) (room : List ℕ) → code.leaves answer room ≡ o → code.says answer .number ≡ 0
+    → leaves coded.Accepted room ≡ ending o
+ends o answer room e k = rw (sym e, eq-eqb (code.says answer .number) 0 k)
+
+pub ends-not : (o : Outcome) (answer : Written) (room : List ℕ) → code.leaves answer room ≡ o → (code.says answer .number ≡ 0 → ⊥)
+    → leaves coded.Span room ≡ ending o
+ends-not o answer room e k = rw (sym e, ne-eqb (code.says answer .number) 0 k)
+
+-- The end around a cell is writing from its fields, and around what is no cell 7
+pub finish-cell : (room : List ℕ) (r : Rectangle) (number : ℕ) (c : Cell) → isCell c ≡ true
+    → ending (writing room (fieldsOf r number c)) ≡ finishing room r number (At c)
+unfolding finishing
+finish-cell room r number c e = rw e
+
+pub finish-none : (room : List ℕ) (r : Rectangle) (number : ℕ) (c : Cell) → isCell c ≡ false
+    → leaves coded.NoCell room ≡ finishing room r number (At c)
+unfolding finishing
+finish-none room r number c e = rw e
+
+pub finish-nowhere : (room : List ℕ) (r : Rectangle) (number : ℕ) → leaves coded.NoCell room ≡ finishing room r number Nowhere
+unfolding finishing
+finish-nowhere room r number = refl
 
 -- Coding leaves no more bytes in a room that has twenty
-pub coding-fits : (room numbers : List ℕ) (kind : Kind) (number : ℕ) → 20 ≤ length room → length (coding room numbers kind number .room) ≤ length room
+pub coding-fits : (room numbers : List ℕ) (kind : Kind) (number : ℕ) → 20 ≤ length room
+    → length (coding room numbers kind number .room) ≤ length room
 unfolding coding
 coding-fits room numbers kind number h =
     at (eqb (run (codeChecks (length room) numbers kind number) .number) 0) (chosenCell (cornersOf numbers))
@@ -38,13 +66,8 @@ coding-fits room numbers kind number h =
     at false c = omega arith
     at true Nowhere = omega (arith, length-drop 20 room)
     at true (At c) =
-        let code : List ℕ = codeOf (fieldsOf (extremesOf (cornersOf numbers)) number c) in
-        omega (
-          arith,
-          length-append code (drop 20 room),
-          length-drop 20 room,
-          code-twenty (fieldsOf (extremesOf (cornersOf numbers)) number c),
-        )
+        let f : Fields = fieldsOf (extremesOf (cornersOf numbers)) number c in
+        omega (arith, length-append (codeOf f) (drop 20 room), length-drop 20 room, code-twenty f)
 
 -- Good fields have no span above 31
 good-spans : (f : Fields) → Good f → above31 f ≡ false
