@@ -1,13 +1,13 @@
 -- The laws of coding's checks (document 01, "Replies"): what each table leaves where it refuses nothing, and what the tables before a
 -- cell is looked for leave together. Assumes nothing.
-use Prim.Native.Nat.{ℕ, _/_, _%_, _≤_}
+use Prim.Native.Nat.{ℕ, _/_, _%_, _≤_, max}
 use native.Mathlib.Omega.{arith}
 use mathlib.Core.Path.{_≡_, refl, sym, ap, _∙_}
-use mathlib.Core.Bool.{Bool, true, false, true≢false}
+use mathlib.Core.Bool.{Bool, true, false, _||_, true≢false}
 use mathlib.Core.List.{List, _++_}
 use lib.Dec.{T, eqb, ltb}
 use lib.ListN.{length}
-use borrow.Author.Tests.{ltb-false, eqb-true, eqb-false, not-false}
+use borrow.Author.Tests.{ltb-true, ltb-false, lt-ltb, le-ltb, eqb-true, eqb-false, not-false}
 use Rattle.replies.specs.Replies.{Said, Check, run}
 use Rattle.replies.specs.RepliesLaws.{numbered, Passed, passed, run-first, run-second}
 use Rattle.facts.specs.Tests.{neither}
@@ -21,8 +21,8 @@ use Rattle.unit.specs.declared.Kind.{Kind}
 use Rattle.unit.specs.declared.Kind.the-variants.{Building, Other}
 use Rattle.unit.specs.declared.Choice.{Choice}
 use Rattle.unit.specs.declared.Choice.the-variants.{At, Nowhere}
-use Rattle.unit.specs.Extents.{extremesOf, latExtent, lonExtent}
-use Rattle.unit.specs.Unit.{fieldsOf, badNumber, above31, roomCheck, shapeChecks, groundChecks, numberCheck, cellChecks}
+use Rattle.unit.specs.Extents.{extremesOf, latExtent, lonExtent, spanOf}
+use Rattle.unit.specs.Unit.{fieldsOf, aboveDegree, above31, roomCheck, shapeChecks, groundChecks, numberCheck, cellChecks}
 use Rattle.unit.specs.Choosing.{InRange, in-range}
 use Rattle.unit.specs.Frame.{firstChecks}
 
@@ -69,6 +69,19 @@ shaped numbers e = at (passed (shapeChecks numbers) tt e)
         let between = within 3 1024 (length numbers / 2) count in
         let paired = eqb-false (length numbers % 2) 1 odd in
         record { even = omega arith; least = between .0; most = between .1 }
+
+-- The greater of two is above an end where one of them is
+max-above : (end a b : ℕ) → ltb end (max a b) ≡ (ltb end a || ltb end b)
+max-above end a b = at (ltb end a) (ltb end b) refl refl
+  where
+    at : (s t : Bool) → ltb end a ≡ s → ltb end b ≡ t → ltb end (max a b) ≡ (s || t)
+    at true t h k = lt-ltb end (max a b) (omega (arith, ltb-true end a h))
+    at false true h k = lt-ltb end (max a b) (omega (arith, ltb-true end b k))
+    at false false h k = le-ltb end (max a b) (omega (arith, ltb-false end a h, ltb-false end b k))
+
+-- so an extent is above a degree where the span is
+pub span-above : (r : Rectangle) → ltb degree (spanOf r) ≡ aboveDegree r
+span-above r = max-above degree (latExtent r) (lonExtent r)
 
 -- Checks 4 and 5 leave every corner within the range, and extents of at most a degree
 pub record Grounded (corners : List Point) : Type 0 where
