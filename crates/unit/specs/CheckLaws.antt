@@ -22,7 +22,7 @@ use Rattle.unit.specs.declared.Kind.the-variants.{Building, Other}
 use Rattle.unit.specs.declared.Choice.{Choice}
 use Rattle.unit.specs.declared.Choice.the-variants.{At, Nowhere}
 use Rattle.unit.specs.Extents.{extremesOf, latExtent, lonExtent, spanOf}
-use Rattle.unit.specs.Unit.{fieldsOf, aboveDegree, above31, roomCheck, shapeChecks, groundChecks, numberCheck, cellChecks}
+use Rattle.unit.specs.Unit.{fieldsOf, chosenCell, aboveDegree, above31, roomCheck, shapeChecks, groundChecks, numberCheck, cellChecks, cornerChecks, codeChecks}
 use Rattle.unit.specs.Choosing.{InRange, in-range}
 use Rattle.unit.specs.Frame.{firstChecks}
 
@@ -144,3 +144,26 @@ celled r number choice e = at choice (passed (cellChecks r number choice) tt e)
     at : (choice : Choice) → Passed (cellChecks r number choice) → Celled r number choice
     at (At c) (none, (above, _)) = record { cell = c; chosen = refl; spans = above }
     at Nowhere (none, (above, _)) = absurd (true≢false none)
+
+module _ (room : ℕ) (numbers : List ℕ) (kind : Kind) (number : ℕ) where
+  -- Coding's checks are those before a cell is looked for, and then those of the chosen cell
+  abbrev firsts : List Check
+  firsts = firstChecks room numbers kind number
+
+  abbrev lasts : List Check
+  lasts = cellChecks (extremesOf (cornersOf numbers)) number (chosenCell (cornersOf numbers))
+
+  -- What the first say, where one of them refuses, coding says
+  pub first-refuses : (run firsts .number ≡ 0 → ⊥) → run (codeChecks room numbers kind number) ≡ run firsts
+  unfolding firstChecks cornerChecks
+  first-refuses = run-first firsts lasts tt
+
+  -- and where none does, what the last say
+  pub first-accepts : run firsts .number ≡ 0 → run (codeChecks room numbers kind number) ≡ run lasts
+  unfolding firstChecks cornerChecks
+  first-accepts = run-second firsts lasts tt
+
+  -- Where coding refuses nothing, neither do
+  pub all-accept : run (codeChecks room numbers kind number) .number ≡ 0 → (run firsts .number ≡ 0) × (run lasts .number ≡ 0)
+  unfolding firstChecks cornerChecks
+  all-accept = both-pass firsts lasts tt

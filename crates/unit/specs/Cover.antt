@@ -29,11 +29,10 @@ use Rattle.unit.specs.declared.Kind.{Kind}
 use Rattle.unit.specs.declared.Choice.{Choice}
 use Rattle.unit.specs.declared.Choice.the-variants.{At}
 use Rattle.unit.specs.Extents.{lats, lons, extremesOf, spanOf}
-use Rattle.unit.specs.Unit.{scaleOf, spanCells, fieldsOf, chosenCell, above31, cellChecks, codeAt, cornerChecks, coding}
+use Rattle.unit.specs.Unit.{scaleOf, spanCells, fieldsOf, codeAt, chosenCell, above31, coding}
 use Rattle.unit.specs.Scale.{scale-size, scale-written}
 use Rattle.unit.specs.Choosing.{range-ends, choose-chosen}
-use Rattle.unit.specs.Frame.{firstChecks}
-use Rattle.unit.specs.CheckLaws.{both-pass, Grounded, Entered, entered, celled}
+use Rattle.unit.specs.CheckLaws.{Grounded, Entered, entered, celled, all-accept}
 use Rattle.unit.specs.InExtents.{least-each, greatest-each, reference-lat, reference-lon, fields-least}
 
 -- So many cells of size s, less one, reach a distance, by less than s beyond it
@@ -188,14 +187,13 @@ passing h chosen spans =
 module _ (room numbers : List ℕ) (kind : Kind) (number : ℕ) where
   -- Coding that accepts codes its unit
   pub coded : coding room numbers kind number .said ≡ accepted → UnitCoded room numbers kind number
-  unfolding coding cornerChecks firstChecks
+  unfolding coding
   coded e =
       let corners : List Point = cornersOf numbers in
       let r : Rectangle = extremesOf corners in
-      let both =
-      both-pass (firstChecks (length room) numbers kind number) (cellChecks r number (chosenCell corners)) tt (ap (λ (s : Said). s .number) e) in
-      let h = entered room numbers kind number (both .0) in
-      let last = celled r number (chosenCell corners) (both .1) in
+      let all = all-accept (length room) numbers kind number (ap (λ (s : Said). s .number) e) in
+      let h = entered room numbers kind number (all .0) in
+      let last = celled r number (chosenCell corners) (all .1) in
       let p = passing h (last .chosen) (last .spans) in
       record {
         cell = last .cell;

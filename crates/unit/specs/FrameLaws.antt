@@ -9,7 +9,6 @@ use lib.Dec.{eqb}
 use lib.ListN.{length, drop, length-drop, length-append}
 use borrow.Author.Tests.{eq-eqb, ne-eqb, le-ltb}
 use Rattle.replies.specs.Replies.{Said, Check, check, run, Outcome, outcome}
-use Rattle.replies.specs.RepliesLaws.{run-first, run-second}
 use Rattle.facts.specs.Tests.{none-of}
 use Rattle.ground.specs.declared.Rectangle.{Rectangle}
 use Rattle.ground.specs.declared.Cell.{Cell}
@@ -26,8 +25,8 @@ use Rattle.unit.specs.declared.Coded.the-variants as coded
 use Rattle.unit.specs.declared.Choice.{Choice}
 use Rattle.unit.specs.declared.Choice.the-variants.{At, Nowhere}
 use Rattle.unit.specs.Extents.{extremesOf}
-use Rattle.unit.specs.Unit.{fieldsOf, above31, cellChecks, codeAt, chosenCell, cornerChecks, codeChecks, coding}
-use Rattle.unit.specs.CheckLaws.{Entered, entered}
+use Rattle.unit.specs.Unit.{fieldsOf, above31, cellChecks, codeAt, chosenCell, codeChecks, coding}
+use Rattle.unit.specs.CheckLaws.{Entered, entered, first-refuses, first-accepts}
 use Rattle.unit.specs.Cover.{fields-good, chosen-inside, passing}
 use Rattle.unit.specs.Frame.{says, leaves, ending, firstChecks, finishing}
 
@@ -89,29 +88,26 @@ spans-end room f long so = at (above31 f) refl
         rw (not-0, refused-writing room f not-0)
 
 module _ (room numbers : List ℕ) (kind : Kind) (number : ℕ) where
-  -- The checks before a cell is looked for, and those of the chosen cell
+  -- Checks 1 to 6
   abbrev firsts : List Check
   firsts = firstChecks (length room) numbers kind number
 
-  abbrev lasts : Choice → List Check
-  lasts choice = cellChecks (extremesOf (cornersOf numbers)) number choice
-
-  -- Where one of checks 1 to 6 refuses, coding says what it says and leaves the room
+  -- Where one of them refuses, coding says what it says and leaves the room
   pub framed-refused : (run firsts .number ≡ 0 → ⊥) → coding room numbers kind number ≡ record { said = run firsts; room = room }
-  unfolding coding firstChecks cornerChecks
-  framed-refused h = rw (run-first firsts (lasts (chosenCell (cornersOf numbers))) tt h, ne-eqb (run firsts .number) 0 h)
+  unfolding coding
+  framed-refused h = rw (first-refuses (length room) numbers kind number h, ne-eqb (run firsts .number) 0 h)
 
   -- Else coding is its end around the chosen cell
   pub framed : run firsts .number ≡ 0
       → coding room numbers kind number ≡ finishing room (extremesOf (cornersOf numbers)) number (chosenCell (cornersOf numbers))
-  unfolding coding firstChecks cornerChecks
+  unfolding coding
   framed e =
       let choice : Choice = chosenCell (cornersOf numbers) in
-      ap (λ (s : Said). outcome s (codeAt (extremesOf (cornersOf numbers)) number choice) room) (run-second firsts (lasts choice) tt e)
+      ap (λ (s : Said). outcome s (codeAt (extremesOf (cornersOf numbers)) number choice) room) (first-accepts (length room) numbers kind number e)
       ∙ at choice refl (entered room numbers kind number e)
     where
       at : (choice : Choice) → chosenCell (cornersOf numbers) ≡ choice → Entered room numbers number
-          → outcome (run (lasts choice)) (codeAt (extremesOf (cornersOf numbers)) number choice) room
+          → outcome (run (cellChecks (extremesOf (cornersOf numbers)) number choice)) (codeAt (extremesOf (cornersOf numbers)) number choice) room
           ≡ finishing room (extremesOf (cornersOf numbers)) number choice
       at (At c) chosen h =
           let r : Rectangle = extremesOf (cornersOf numbers) in

@@ -66,11 +66,11 @@ kindOf letter = cond (eqb letter (code "B")) Building Other
 abbrev pub chosenCell : List Point → Choice
 chosenCell corners = choose corners
 
--- 1: output shorter than 20
+-- Check 1: output shorter than 20
 abbrev pub roomCheck : ℕ → List Check
 roomCheck room = check 1 (ltb room 20) ∷ []
 
--- 2: odd count of numbers (latitude, longitude alternate); 3: fewer than 3 or more than 1,024 corners
+-- Check 2: odd count of numbers (latitude, longitude alternate); check 3: fewer than 3 or more than 1,024 corners
 abbrev pub shapeChecks : List ℕ → List Check
 shapeChecks numbers =
     check 2 (eqb (length numbers % 2) 1)
@@ -85,7 +85,7 @@ aboveRange p = ltb latEnd (p .lat .0) || ltb lonEnd (p .lon .0)
 abbrev pub aboveDegree : Rectangle → Bool
 aboveDegree r = ltb degree (latExtent r) || ltb degree (lonExtent r)
 
--- 4: a coordinate above its range, at the first such corner; 5: an extent above 7,372,800
+-- Check 4, at the first such corner, and check 5
 abbrev pub groundChecks : List Point → List Check
 groundChecks corners =
     let above : ℕ = firstPlace aboveRange corners in
@@ -98,7 +98,7 @@ abbrev pub badNumber : Kind → ℕ → Bool
 badNumber Building number = outside 1 1048575 number
 badNumber Other number = not (eqb number 0)
 
--- 6: building with a number not in 1 to 1,048,575, or other kind with a number not 0
+-- Check 6
 abbrev pub numberCheck : Kind → ℕ → List Check
 numberCheck kind number = check 6 (badNumber kind number) ∷ []
 
@@ -115,7 +115,7 @@ abbrev pub spanAbove : Rectangle → ℕ → Choice → Bool
 spanAbove r number (At c) = above31 (fieldsOf r number c)
 spanAbove r number Nowhere = false
 
--- 7: no cell of levels 9 to 27 is inside; 8: a span above 31
+-- Checks 7 and 8, of the chosen cell
 abbrev pub cellChecks : Rectangle → ℕ → Choice → List Check
 cellChecks r number choice = check 7 (noCell choice) ∷ check 8 (spanAbove r number choice) ∷ []
 

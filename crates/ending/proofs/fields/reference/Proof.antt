@@ -28,7 +28,8 @@ returns-2 c =
     let a = ce .before .before .before .before .before .args in
     let at : ℕ → ℕ → Point = λ x y. record { lat = lat x; lon = lon y } in
     ap₂ at (c .before .less .ensures) (c .less2 .ensures)
-    ∙ reference-centre (a .c) (ne-eqb (a .c .level) finestLevel (ce .before .if1 .left)) (ce .centre .ensures ∙ ap centreOf (ce .before .before .before .before .before .pre))
+    ∙ reference-centre (a .c) (ne-eqb (a .c .level) finestLevel (ce .before .if1 .left))
+    (ce .centre .ensures ∙ ap centreOf (ce .before .before .before .before .before .pre))
 
 pub reference-spec : {M : Type 1} → statement M
 reference-spec =
