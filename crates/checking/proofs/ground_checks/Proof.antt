@@ -59,10 +59,10 @@ span-requires : tie.Need-span-requires
 span-requires c κs = search needs
 
 returns-2 : tie.Need-returns-2
-returns-2 c = rw (none (c .before .before .before), told (c .before) ∙ lt-ltb degree _ (c .if2 .taken))
+returns-2 c = rw (none (c .before .before .before), told (c .before) ∙ lt-ltb degree (c .before .span .result) (omega (arith, c .if2 .taken)))
 
 returns-3 : tie.Need-returns-3
-returns-3 c = rw (none (c .before .before .before), told (c .before) ∙ le-ltb degree _ (c .if2 .left))
+returns-3 c = rw (none (c .before .before .before), told (c .before) ∙ le-ltb degree (c .before .span .result) (omega (arith, c .if2 .left)))
 
 pub ground-checks-spec : {M : Type 1} → statement M
 ground-checks-spec =

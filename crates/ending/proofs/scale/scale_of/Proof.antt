@@ -1,9 +1,9 @@
 -- `ending::scale::scale_of` meets its contract: no level finer than the one tried is the scale. Assumes nothing.
-use Prim.Native.Nat.{ℕ, _*_, _≤_, _<_}
+use Prim.Native.Nat.{ℕ, _≤_}
 use native.Mathlib.Omega.{arith}
 use mathlib.Core.Path.{sym, subst}
 use borrow.Author.Needs.{needs}
-use Rattle.ground.specs.Levels.{degree, sizeOf}
+use Rattle.ground.specs.Levels.{degree}
 use Rattle.ground.specs.Sizes.{size-most}
 use Rattle.ending.specs.Scaling.{Tried, scale-begin, scale-here, scale-before, scale-end}
 use Rattle.ending.proofs.scale.scale_of.Statement.{statement}
@@ -31,9 +31,7 @@ mul-if1 c = omega (arith, most c)
 
 returns : tie.Need-returns Inv-loop μ-loop
 returns c =
-    let at = c .before .before .before in
-    let span = at .before .args .span in
-    scale-here (at .loop .inv) (search needs) (subst (λ (s : ℕ). span < s * 32) (c .before .size .ensures) (c .if1 .taken))
+    scale-here (c .before .before .before .loop .inv) (search needs) (omega (arith, c .before .size .ensures, c .if1 .taken))
 
 sub-level : tie.Need-sub-level Inv-loop μ-loop
 sub-level c = search needs
@@ -43,9 +41,7 @@ loop-less c = search needs
 
 loop-again : tie.Need-loop-again Inv-loop μ-loop
 loop-again c =
-    let at = c .before .before .before in
-    let span = at .before .args .span in
-    scale-before (at .loop .inv) (search needs) (subst (λ (s : ℕ). s * 32 ≤ span) (c .before .size .ensures) (c .if1 .left))
+    scale-before (c .before .before .before .loop .inv) (search needs) (omega (arith, c .before .size .ensures, c .if1 .left))
 
 returns-2 : tie.Need-returns-2 Inv-loop μ-loop
 returns-2 c = scale-end (c .before .loop .inv) (search needs)
