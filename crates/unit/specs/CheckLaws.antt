@@ -22,7 +22,8 @@ use Rattle.unit.specs.declared.Kind.the-variants.{Building, Other}
 use Rattle.unit.specs.declared.Choice.{Choice}
 use Rattle.unit.specs.declared.Choice.the-variants.{At, Nowhere}
 use Rattle.unit.specs.Extents.{extremesOf, latExtent, lonExtent, spanOf}
-use Rattle.unit.specs.Unit.{fieldsOf, chosenCell, aboveDegree, above31, roomCheck, shapeChecks, groundChecks, numberCheck, cellChecks, cornerChecks, codeChecks}
+use Rattle.unit.specs.Unit.{fieldsOf, chosenCell, aboveDegree, above31}
+use Rattle.unit.specs.Unit.{roomCheck, shapeChecks, groundChecks, numberCheck, cellChecks, cornerChecks, codeChecks}
 use Rattle.unit.specs.Choosing.{InRange, in-range}
 use Rattle.unit.specs.Frame.{firstChecks}
 
