@@ -33,10 +33,10 @@ fn chosen(numbers: &[u32], r: Rectangle) -> Choice
 pub fn code(room: &mut [u8], numbers: &[u32], kind: Kind, number: u32) -> Coded
     ensures { λ a. ⌜ leaves a (now (room .exit)) ≡ coding (now (room .entry)) (now (numbers .entry)) kind number ⌝ }
 {
-    let said = unit::checks(room.len(), numbers, kind, number);
+    let said = checking::checks(room.len(), numbers, kind, number);
     if unit::coded_number(said) != 0 {
         return said;
     }
     let r = unit::extremes(numbers);
-    unit::finish(room, r, number, chosen(numbers, r))
+    ending::finish(room, r, number, chosen(numbers, r))
 }

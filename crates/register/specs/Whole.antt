@@ -8,7 +8,7 @@ use lib.ListN.{length, take, replicate}
 use lib.Dec.{eqb}
 use Rattle.replies.specs.Replies.{Outcome}
 use Rattle.unit.specs.Unit.{kindOf, coding}
-use Rattle.unit.specs.Framing.{coding-fits}
+use Rattle.unit.specs.FrameLaws.{coding-fits}
 use Rattle.lines.specs.Lines.{saying, coded, refused, longest, outputOf}
 use Rattle.lines.specs.Places.{Put}
 use Rattle.lines.specs.RoomLaws.{put-within, put-whole}

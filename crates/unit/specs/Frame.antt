@@ -2,9 +2,8 @@
 -- looked for, and the end of coding around a cell that is handed in. Assumes nothing.
 use Prim.Native.Nat.{ℕ}
 use mathlib.Core.Bool.{cond}
-use mathlib.Core.List.{List}
+use mathlib.Core.List.{List, _++_}
 use lib.Dec.{eqb}
-use lib.ListN.{take}
 use Rattle.replies.specs.Replies.{Said, refused, accepted, Check, Outcome}
 use Rattle.ground.specs.declared.Rectangle.{Rectangle}
 use Rattle.ground.specs.CellTest.{isCell}
@@ -14,7 +13,8 @@ use Rattle.unit.specs.declared.Choice.{Choice}
 use Rattle.unit.specs.declared.Choice.the-variants.{At, Nowhere}
 use Rattle.unit.specs.declared.Coded.{Coded}
 use Rattle.unit.specs.declared.Coded.the-variants as coded
-use Rattle.unit.specs.Unit.{fieldsOf, codeChecks}
+use Rattle.boundary.specs.Corners.{cornersOf}
+use Rattle.unit.specs.Unit.{fieldsOf, roomCheck, shapeChecks, groundChecks, numberCheck}
 
 -- The number and the place of each answer of coding
 abbrev pub says : Coded → Said
@@ -34,7 +34,8 @@ leaves answer room = record { said = says answer; room = room }
 
 -- Checks 1 to 6, before a cell is looked for
 unfoldable pub firstChecks : ℕ → List ℕ → Kind → ℕ → List Check
-firstChecks room numbers kind number = take 6 (codeChecks room numbers kind number)
+firstChecks room numbers kind number =
+    roomCheck room ++ shapeChecks numbers ++ groundChecks (cornersOf numbers) ++ numberCheck kind number
 
 -- What writing from a cell's fields comes to: acceptance, or 8, since a chosen cell's fields can fail by a span alone
 abbrev pub ending : Outcome → Outcome

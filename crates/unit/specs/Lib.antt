@@ -5,10 +5,9 @@ pub mod Scale
 pub mod InExtents
 pub mod SameGround
 pub mod Widening
-pub mod Scaling
 pub mod Choosing
-pub mod Cover
 pub mod Frame
-pub mod Ending
-pub mod Framing
+pub mod CheckLaws
+pub mod Cover
+pub mod FrameLaws
 pub mod Once

@@ -3,7 +3,7 @@ ghost use mathlib.Core.Path.{_≡_};
 ghost use Prim.Native.Nat.{_-_, min, max};
 ghost use Rattle.facts.specs.Places.{firstPlace};
 ghost use Rattle.boundary.specs.Corners.{cornersOf};
-ghost use Rattle.unit.specs.Extents.{extremesOf, latExtent, lonExtent};
+ghost use Rattle.unit.specs.Extents.{extremesOf, latExtent, lonExtent, spanOf};
 ghost use Rattle.unit.specs.Unit.{aboveRange};
 ghost use Rattle.unit.specs.Widening.{widened};
 use boundary::corner;
@@ -73,14 +73,14 @@ pub fn extremes(numbers: &[u32]) -> Rectangle
 }
 
 // A number less another, and 0 where that is greater.
-pub(crate) fn less(a: u32, b: u32) -> u32
+fn less(a: u32, b: u32) -> u32
     ensures { λ r. ⌜ r ≡ a - b ⌝ }
 {
     if a < b { 0 } else { a - b }
 }
 
 // The extent in latitude.
-pub(crate) fn lat_extent(r: Rectangle) -> u32
+fn lat_extent(r: Rectangle) -> u32
     ensures { λ e. ⌜ e ≡ latExtent r ⌝ }
 {
     let south = r.south;
@@ -89,12 +89,21 @@ pub(crate) fn lat_extent(r: Rectangle) -> u32
 }
 
 // The extent in longitude.
-pub(crate) fn lon_extent(r: Rectangle) -> u32
+fn lon_extent(r: Rectangle) -> u32
     ensures { λ e. ⌜ e ≡ lonExtent r ⌝ }
 {
     let west = r.west;
     let east = r.east;
     less(east.0, west.0)
+}
+
+// The larger of the two extents.
+pub fn span(r: Rectangle) -> u32
+    ensures { λ s. ⌜ s ≡ spanOf r ⌝ }
+{
+    let lat = lat_extent(r);
+    let lon = lon_extent(r);
+    if lat < lon { lon } else { lat }
 }
 
 // Whether a point has a coordinate above its range.

@@ -1,17 +1,12 @@
-// A unit: what coding is, and the frame that both roads share around their search. The definitions
-// are in specs/: the chosen cell in Chosen.antt, scale, spans, checks and coding in Unit.antt, the
-// frame in Frame.antt.
-mod checking;
-mod ending;
+// A unit: what coding is, its answers, and the unit's extents. The definitions are in specs/: the
+// chosen cell in Chosen.antt, scale, spans, checks and coding in Unit.antt, the frame that both roads
+// share around their search in Frame.antt.
 mod extents;
-mod scale;
 
-pub use checking::checks;
-pub use ending::finish;
 pub use extents::extremes;
 pub use extents::first_above;
+pub use extents::span;
 use ground::Cell;
-pub use scale::scale_of;
 ghost use mathlib.Core.Path.{_≡_};
 ghost use Rattle.unit.specs.Frame.{says};
 ghost use Rattle.unit.specs.Unit.{kindOf};

@@ -1,7 +1,7 @@
 -- `plain::code` meets its contract: the frame around the chosen cell. Assumes nothing.
 use mathlib.Core.Path.{sym, _∙_}
 use borrow.Author.Needs.{needs}
-use Rattle.unit.specs.Framing.{road-refused, road-range, road-ends}
+use Rattle.unit.specs.FrameLaws.{road-refused, road-entered, road-ends}
 use Rattle.unit.specs.Choosing.{over-range}
 use Rattle.plain.proofs.code.Statement.{statement}
 use Rattle.plain.proofs.code.Tie as tie
@@ -26,8 +26,8 @@ chosen-requires c κs =
     let checked = c .before .before .before .before in
     let a = checked .before .before .before .args in
     over-range (c .before .extremes .ensures)
-    (road-range (a .room .now) (a .numbers .now) (a .kind) (a .number) (checked .checks .result) (checked .checks .ensures)
-    (sym (c .before .before .before .coded-number .ensures) ∙ c .before .before .if1 .left))
+    (road-entered (a .room .now) (a .numbers .now) (a .kind) (a .number) (checked .checks .result) (checked .checks .ensures)
+    (sym (c .before .before .before .coded-number .ensures) ∙ c .before .before .if1 .left) .ground .range)
 
 finish-requires : tie.Need-finish-requires
 finish-requires c κs = search needs
