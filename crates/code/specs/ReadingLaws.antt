@@ -5,14 +5,14 @@ use mathlib.Core.Path.{_≡_, refl, ap, _∙_, sym}
 use mathlib.Core.Bool.{Bool, true, false, cond, _||_}
 use mathlib.Core.List.{List, _++_}
 use lib.Dec.{T, eqb, ltb}
-use borrow.Author.Tests.{ltb-false, eq-eqb, ne-eqb, le-ltb, eqb-true, eqb-false}
+use borrow.Author.Tests.{ltb-false, ne-eqb, le-ltb, eqb-true, eqb-false}
 use Rattle.replies.specs.Replies.{Said, accepted, run}
 use Rattle.replies.specs.RepliesLaws.{numbered, Passed, passed, run-append, run-second}
 use Rattle.facts.specs.Tests.{neither, none-of}
 use Rattle.ground.specs.Levels.{finestLevel}
 use Rattle.location.specs.Location.{degreesIn, minutesIn, secondsIn, hemisphereIn, latIn, lonIn}
 use Rattle.location.specs.LocationLaws.{Sixtieths}
-use Rattle.spelling.specs.Spelling.{locationIn, restIn, textChecks, both, neither as neither-number, numbersIn}
+use Rattle.spelling.specs.Spelling.{locationIn, restIn, textChecks, twoNumbers, noNumbers, numbersIn}
 use Rattle.spelling.specs.SpellingLaws.{TwentyLetters, text-numbered, text-passed, letters-spell}
 use Rattle.code.specs.declared.Fields.{Fields}
 use Rattle.code.specs.Code.{
@@ -170,7 +170,7 @@ reading-in-order text =
     at (run (textChecks text)) (eqb (run (textChecks text) .number) 0) refl
     ∙ sym (ap (λ (s : Said). toldWhere s f) (run-append (textChecks text) later (text-numbered text)))
   where
-    at : (s : Said) (b : Bool) → eqb (s .number) 0 ≡ b → readingOn (cond b (both (locationIn text) (restIn text)) (neither-number s))
+    at : (s : Said) (b : Bool) → eqb (s .number) 0 ≡ b → readingOn (cond b (twoNumbers (locationIn text) (restIn text)) (noNumbers s))
         ≡ toldWhere (cond b (run (locationChecks (locationIn text) ++ spanChecks (fieldsIn (locationIn text) (restIn text)))) s)
         (fieldsIn (locationIn text) (restIn text))
     at s true k = refl

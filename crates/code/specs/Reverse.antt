@@ -20,11 +20,11 @@ module _ (f : Fields) (g : Good f) where
   -- The two numbers of the code of good fields are those it was written from
   code-location : locationIn (codeOf f) ≡ locationOf (f .reference)
   unfolding codeOf
-  code-location = spelling.location-back (locationOf (f .reference)) (restOf f) (location.location-below (f .reference))
+  code-location = spelling.location-read (locationOf (f .reference)) (restOf f) (location.location-below (f .reference))
 
   code-rest : restIn (codeOf f) ≡ restOf f
   unfolding codeOf
-  code-rest = spelling.rest-back (locationOf (f .reference)) (restOf f) (rest-below f g)
+  code-rest = spelling.rest-read (locationOf (f .reference)) (restOf f) (rest-below f g)
 
   -- and so are its fields
   code-fields : fieldsIn (locationIn (codeOf f)) (restIn (codeOf f)) ≡ f
@@ -79,8 +79,8 @@ module _ {text : List ℕ} (r : Readable text) where
   unfolding codeOf fieldsIn
   code-reading =
       ap₂ spelledBoth
-      (location.location-back (locationIn text) (spelling.location-below (r .letters)) (r .located .closed) (r .located .lat) (r .located .lon))
-      (rest-back (locationIn text) (restIn text) (spelling.rest-below (r .letters)))
+      (location.location-back (locationIn text) (spelling.location-in-below (r .letters)) (r .located .closed) (r .located .lat) (r .located .lon))
+      (rest-back (locationIn text) (restIn text) (spelling.rest-in-below (r .letters)))
       ∙ spelling.spelled-back (r .letters)
 
 -- Reading what writing accepted gives the fields back

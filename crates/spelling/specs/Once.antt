@@ -1,6 +1,6 @@
 -- No second answer satisfies the promise of `numbers_in`. Assumes nothing.
 use mathlib.Core.Path.{_≡_, refl}
-use mathlib.Core.List.{List, [], _∷_}
+use mathlib.Core.List.{[], _∷_}
 use Rattle.facts.specs.Once.{said-once, sought}
 use Rattle.spelling.specs.declared.Spelled.{Spelled}
 use Rattle.spelling.specs.declared.Spelled.the-variants as spelled

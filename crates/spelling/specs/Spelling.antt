@@ -39,20 +39,20 @@ pub record Numbers : Type 0 where
   pub location : ℕ
   pub rest : ℕ
 
-abbrev pub both : ℕ → ℕ → Numbers
-both location rest = record { said = accepted; location = location; rest = rest }
+abbrev pub twoNumbers : ℕ → ℕ → Numbers
+twoNumbers location rest = record { said = accepted; location = location; rest = rest }
 
 -- A refusal has both numbers 0
-abbrev pub neither : Said → Numbers
-neither said = record { said = said; location = 0; rest = 0 }
+abbrev pub noNumbers : Said → Numbers
+noNumbers said = record { said = said; location = 0; rest = 0 }
 
 -- From a text to its two numbers, or what is refused
 unfoldable pub numbersIn : List ℕ → Numbers
 numbersIn text =
-    cond (eqb (run (textChecks text) .number) 0) (both (locationIn text) (restIn text)) (neither (run (textChecks text)))
+    cond (eqb (run (textChecks text) .number) 0) (twoNumbers (locationIn text) (restIn text)) (noNumbers (run (textChecks text)))
 
 -- The number, the place and the two numbers of each answer
 abbrev pub spells : Spelled → Numbers
-spells (spelled.Numbers location rest) = both location rest
-spells spelled.Length = neither (refused 11 0)
-spells (spelled.Letter byte) = neither (refused 12 byte)
+spells (spelled.Numbers location rest) = twoNumbers location rest
+spells spelled.Length = noNumbers (refused 11 0)
+spells (spelled.Letter byte) = noNumbers (refused 12 byte)

@@ -25,7 +25,7 @@ use Rattle.letters.specs.Words.{
   digits-word,
   number-spelled,
 }
-use Rattle.spelling.specs.Spelling.{spelledBoth, spelledInto, locationIn, restIn, textChecks, both, numbersIn}
+use Rattle.spelling.specs.Spelling.{spelledBoth, spelledInto, locationIn, restIn, textChecks, twoNumbers, numbersIn}
 
 -- Twenty letters
 pub record TwentyLetters (text : List ℕ) : Type 0 where
@@ -56,7 +56,7 @@ letters-pass {text} t =
     rw (eq-eqb (length text) 20 (t .twenty), le-ltb (firstOther letters text) (length text) all)
 
 -- and spell two numbers
-pub letters-spell : {text : List ℕ} → TwentyLetters text → numbersIn text ≡ both (locationIn text) (restIn text)
+pub letters-spell : {text : List ℕ} → TwentyLetters text → numbersIn text ≡ twoNumbers (locationIn text) (restIn text)
 unfolding numbersIn
 letters-spell t = rw (letters-pass t)
 
@@ -68,19 +68,19 @@ module _ {text : List ℕ} (t : TwentyLetters text) where
   nine = simp length-drop (omega arith)
 
   -- The first is of 55 bits and the second of 45
-  pub location-below : locationIn text < 2 ^ 55
-  location-below = subst (λ (n : ℕ). locationIn text < 32 ^ n) eleven (word-number refl (word-take 11 (t .word)))
+  pub location-in-below : locationIn text < 2 ^ 55
+  location-in-below = subst (λ (n : ℕ). locationIn text < 32 ^ n) eleven (word-number refl (word-take 11 (t .word)))
 
-  pub rest-below : restIn text < 2 ^ 45
-  rest-below = subst (λ (n : ℕ). restIn text < 32 ^ n) nine (word-number refl (word-drop 11 (t .word)))
+  pub rest-in-below : restIn text < 2 ^ 45
+  rest-in-below = subst (λ (n : ℕ). restIn text < 32 ^ n) nine (word-number refl (word-drop 11 (t .word)))
 
   -- so that `letters::number` gives them whole
   pub location-low : locationIn text % 2 ^ 60 ≡ locationIn text
-  location-low = omega (arith, location-below)
+  location-low = omega (arith, location-in-below)
 
   pub rest-low : numberIn letters (take 9 (drop 11 text)) % 2 ^ 60 ≡ restIn text
   rest-low =
-      ap (λ (s : List ℕ). numberIn letters s % 2 ^ 60) (take-all 9 (drop 11 text) (omega (arith, nine))) ∙ omega (arith, rest-below)
+      ap (λ (s : List ℕ). numberIn letters s % 2 ^ 60) (take-all 9 (drop 11 text) (omega (arith, nine))) ∙ omega (arith, rest-in-below)
 
   -- The two numbers spelled are the text
   pub spelled-back : spelledBoth (locationIn text) (restIn text) ≡ text
@@ -104,13 +104,13 @@ module _ (location rest : ℕ) where
   }
 
   -- They are read back, where they have 55 and 45 bits
-  pub location-back : location < 2 ^ 55 → locationIn (spelledBoth location rest) ≡ location
+  pub location-read : location < 2 ^ 55 → locationIn (spelledBoth location rest) ≡ location
   unfolding spelledBoth
-  location-back h = number-spelled letters letters-distinct refl 11 location h
+  location-read h = number-spelled letters letters-distinct refl 11 location h
 
-  pub rest-back : rest < 2 ^ 45 → restIn (spelledBoth location rest) ≡ rest
+  pub rest-read : rest < 2 ^ 45 → restIn (spelledBoth location rest) ≡ rest
   unfolding spelledBoth
-  rest-back h = number-spelled letters letters-distinct refl 9 rest h
+  rest-read h = number-spelled letters letters-distinct refl 9 rest h
 
   -- A room that has twenty bytes gets these, and keeps its others
   pub spelled-into : (room : List ℕ) → 20 ≤ length room → spelledInto room location rest ≡ spelledBoth location rest ++ drop 20 room

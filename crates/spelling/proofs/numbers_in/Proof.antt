@@ -8,7 +8,7 @@ use borrow.Author.Tests.{eq-eqb, ne-eqb, lt-ltb}
 use Rattle.letters.specs.Alphabet.{firstOther}
 use Rattle.letters.specs.Letters.{letters}
 use Rattle.letters.specs.Words.{first-word}
-use Rattle.spelling.specs.Spelling.{textChecks, both, numbersIn}
+use Rattle.spelling.specs.Spelling.{textChecks, twoNumbers, numbersIn}
 use Rattle.spelling.specs.SpellingLaws.{TwentyLetters, letters-spell, location-low, rest-low}
 use Rattle.spelling.proofs.numbers_in.Statement.{statement}
 use Rattle.spelling.proofs.numbers_in.Tie as tie
@@ -70,7 +70,7 @@ returns-3 : tie.Need-returns-3
 returns-3 c =
     let first = c .before .before in
     let t = twenty-letters (first .before .before) in
-    ap₂ both (first .number .ensures ∙ location-low t) (c .number2 .ensures ∙ rest-low t) ∙ sym (letters-spell t)
+    ap₂ twoNumbers (first .number .ensures ∙ location-low t) (c .number2 .ensures ∙ rest-low t) ∙ sym (letters-spell t)
 
 pub numbers-in-spec : {M : Type 1} → statement M
 numbers-in-spec =
