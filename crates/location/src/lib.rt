@@ -7,6 +7,13 @@ use ground::Lat;
 use ground::Lon;
 use ground::Point;
 
+// A degree, a minute and the smallest size in 64 bits, which the angle of any bits may need.
+const DEGREE: u64 = ground::DEGREE as u64;
+
+const MINUTE: u64 = ground::MINUTE as u64;
+
+const SMALLEST: u64 = ground::SMALLEST as u64;
+
 // The 27 bits of an angle.
 fn bits_of(angle: u32) -> u32
     ensures { λ r. ⌜ r ≡ bitsOf angle ⌝ }
@@ -24,7 +31,8 @@ fn angle_in(bits: u32) -> u64
     let degrees = (bits / 262144) as u64;
     let minutes = (bits / 4096 % 64) as u64;
     let seconds = (bits / 64 % 64) as u64;
-    degrees * 7372800 + minutes * 122880 + seconds * 2048 + (bits % 64) as u64 * 32
+    let last = (bits % 64) as u64;
+    degrees * DEGREE + minutes * MINUTE + seconds * 2048 + last * SMALLEST
 }
 
 // The last n bits of two numbers, paired.

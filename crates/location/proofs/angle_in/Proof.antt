@@ -14,6 +14,9 @@ cast-minutes c = search needs
 cast-seconds : tie.Need-cast-seconds
 cast-seconds c = search needs
 
+cast-last : tie.Need-cast-last
+cast-last c = search needs
+
 mul-result : tie.Need-mul-result
 mul-result c = search needs
 
@@ -28,9 +31,6 @@ mul-result-3 c = search needs
 
 add-result-2 : tie.Need-add-result-2
 add-result-2 c = search needs
-
-cast-result : tie.Need-cast-result
-cast-result c = search needs
 
 mul-result-4 : tie.Need-mul-result-4
 mul-result-4 c = search needs
@@ -49,12 +49,12 @@ angle-in-spec =
     cast-degrees
     cast-minutes
     cast-seconds
+    cast-last
     mul-result
     mul-result-2
     add-result
     mul-result-3
     add-result-2
-    cast-result
     mul-result-4
     add-result-3
     returns)
