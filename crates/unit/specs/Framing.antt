@@ -16,7 +16,7 @@ use Rattle.ground.specs.declared.Rectangle.{Rectangle}
 use Rattle.ground.specs.CellTest.{is-cell}
 use Rattle.code.specs.declared.Fields.{Fields}
 use Rattle.code.specs.Code.{writing, codeOf}
-use Rattle.code.specs.Writing.{code-twenty, Good, within, good-writing, zero-writing, refused-writing}
+use Rattle.code.specs.WritingLaws.{code-twenty, Good, within, good-writing, zero-writing, refused-writing}
 use Rattle.boundary.specs.Corners.{cornersOf}
 use Rattle.unit.specs.declared.Kind.{Kind}
 use Rattle.unit.specs.declared.Coded.{Coded}

@@ -87,7 +87,7 @@ fn fields(r: Rectangle, number: u32, c: Cell, sides: Rectangle) -> Fields
 fn end(room: &mut [u8], f: Fields) -> Coded
     ensures { λ a. ⌜ leaves a (now (room .exit)) ≡ ending (writing (now (room .entry)) f) ⌝ }
 {
-    let answer = code::write(room, f);
+    let answer = writer::write(room, f);
     if code::written_number(answer) == 0 {
         return Coded::Accepted;
     }
