@@ -8,7 +8,7 @@ use lib.ListN.{take, drop}
 use lib.Seq.{take-at}
 use Rattle.replies.specs.Replies.{Said, accepted, run, Outcome, outcome}
 use Rattle.code.specs.Code.{codeOf}
-use Rattle.code.specs.Writing.{code-twenty}
+use Rattle.code.specs.WritingLaws.{code-twenty}
 use Rattle.boundary.specs.Corners.{cornersOf}
 use Rattle.boundary.specs.Changes.{SameGround}
 use Rattle.unit.specs.declared.Kind.{Kind}

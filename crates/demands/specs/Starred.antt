@@ -12,8 +12,9 @@ use Rattle.ground.specs.Levels.{sizeOf}
 use Rattle.ground.specs.Cells.{afresh, lowSide, highSide, sidesOf, centreOf, locationCell}
 use Rattle.letters.specs.Letters.{letters, spelledIn}
 use Rattle.boundary.specs.Boundary.{edgesOf, left, leftOrOn, misses, crossesEast, inside}
-use Rattle.code.specs.Location.{bitsOf, angleIn, paired, latters, locationOf}
-use Rattle.code.specs.Code.{valuesOf, codeOf, rectangleOf, fieldsFrom, letterChecks, Told, reading}
+use Rattle.location.specs.Location.{bitsOf, angleIn, paired, latters, locationOf}
+use Rattle.spelling.specs.Spelling.{spelledBoth, textChecks, numbersIn}
+use Rattle.code.specs.Code.{restOf, codeOf, rectangleOf, fieldsIn, locationChecks, spanChecks, Told, readingNumbers, reading}
 use Rattle.unit.specs.declared.Kind.{Kind}
 use Rattle.unit.specs.declared.Kind.the-variants.{Building, Other}
 use Rattle.unit.specs.declared.Choice.{Choice}
@@ -137,11 +138,16 @@ unfolding sizeOf
     paired
     latters
     locationOf
-    valuesOf
+    restOf
+    spelledBoth
     codeOf
     rectangleOf
-    fieldsFrom
-    letterChecks
+    fieldsIn
+    textChecks
+    numbersIn
+    locationChecks
+    spanChecks
+    readingNumbers
     reading
     cornersOf
     extremesOf

@@ -4,8 +4,9 @@ use Rattle.facts.specs.Texts.{bytes}
 use Rattle.ground.specs.Levels.{sizeOf}
 use Rattle.ground.specs.Cells.{afresh, lowSide, highSide, sidesOf, centreOf, locationCell}
 use Rattle.boundary.specs.Boundary.{edgesOf, left, leftOrOn, misses, crossesEast, inside}
-use Rattle.code.specs.Location.{bitsOf, paired, locationOf}
-use Rattle.code.specs.Code.{valuesOf, codeOf}
+use Rattle.location.specs.Location.{bitsOf, paired, locationOf}
+use Rattle.spelling.specs.Spelling.{spelledBoth}
+use Rattle.code.specs.Code.{restOf, codeOf}
 use Rattle.boundary.specs.Corners.{cornersOf}
 use Rattle.unit.specs.Extents.{extremesOf}
 use Rattle.unit.specs.Chosen.{choose}
@@ -32,7 +33,8 @@ unfolding sizeOf
     bitsOf
     paired
     locationOf
-    valuesOf
+    restOf
+    spelledBoth
     codeOf
     cornersOf
     extremesOf

@@ -79,7 +79,7 @@ fn answer_write(text: &[u8], out: &mut [u8], at: usize) -> usize {
 
 // Writes a code into the room. The place is always 0.
 fn write_into(room: &mut [u8], fields: Fields, out: &mut [u8], at: usize) -> usize {
-    let answer = code::write(room, fields);
+    let answer = writer::write(room, fields);
     let end = lines::put_decimal(out, at, code::written_number(answer) as u64);
     let end = lines::put(out, end, b" 0 ");
     lines::put(out, end, room)
@@ -94,7 +94,7 @@ fn answer_read(text: &[u8], out: &mut [u8], at: usize) -> usize {
     if text.len() < 5 {
         return at;
     }
-    let answer = code::read(&text[5..]);
+    let answer = reader::read(&text[5..]);
     let end = lines::put_decimal(out, at, code::reading_number(answer) as u64);
     let end = put_after_space(out, end, code::reading_place(answer));
     if let Reading::Accepted(fields, sides) = answer {

@@ -19,7 +19,7 @@ use Rattle.ground.specs.Cells.{IsCell, locationCell, cornerOf}
 use Rattle.ground.specs.CellLaws.{Placed}
 use Rattle.code.specs.declared.Fields.{Fields}
 use Rattle.code.specs.Code.{rectangleOf, writing, reading, Told, tellsOf}
-use Rattle.code.specs.Writing.{Good, good-writing}
+use Rattle.code.specs.WritingLaws.{Good, good-writing}
 use Rattle.code.specs.Reverse.{reading-written}
 use Rattle.boundary.specs.Corners.{cornersOf}
 use Rattle.boundary.specs.Boundary.{inside}
