@@ -3,7 +3,7 @@ ghost use Prim.Native.Nat.{_/_, _≤_};
 ghost use mathlib.Core.Path.{_≡_};
 ghost use lib.ListN.{length};
 ghost use Rattle.replies.specs.Replies.{run};
-ghost use Rattle.boundary.specs.Corners.{cornersOf};
+ghost use Rattle.corners.specs.Corners.{cornersOf};
 ghost use Rattle.unit.specs.Unit.{badNumber, roomCheck, shapeChecks, groundChecks, numberCheck};
 ghost use Rattle.unit.specs.Frame.{says, firstChecks};
 use ground::DEGREE;

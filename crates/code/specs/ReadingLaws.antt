@@ -7,7 +7,7 @@ use mathlib.Core.List.{List, _++_}
 use lib.Dec.{T, eqb, ltb}
 use borrow.Author.Tests.{ltb-false, ne-eqb, le-ltb, eqb-true, eqb-false}
 use Rattle.replies.specs.Replies.{Said, accepted, run}
-use Rattle.replies.specs.RepliesLaws.{numbered, Passed, passed, run-append, run-second}
+use Rattle.replies.specs.RepliesLaws.{numbered, Passed, passed, run-append, run-second, both-pass}
 use Rattle.facts.specs.Tests.{neither, none-of}
 use Rattle.ground.specs.Levels.{finestLevel}
 use Rattle.location.specs.Location.{degreesIn, minutesIn, secondsIn, hemisphereIn, latIn, lonIn}
@@ -32,7 +32,7 @@ use Rattle.code.specs.Code.{
   readingOn,
   reading,
 }
-use Rattle.code.specs.WritingLaws.{both-zero, within, in-range}
+use Rattle.code.specs.WritingLaws.{within, in-range}
 
 -- A location that a code can have; its degrees leave no hemisphere bit
 pub record Located (location : ℕ) : Type 0 where
@@ -193,8 +193,8 @@ accepted-reading text e =
     let later = locationChecks (locationIn text) ++ spanChecks f in
     let told : toldWhere (run (textChecks text ++ later)) f .said .number ≡ 0 =
     ap (λ (t : Told). t .said .number) (sym (reading-in-order text)) ∙ ap (λ (s : Said). s .number) e in
-    let text-zero = both-zero (textChecks text) later (text-numbered text) (told-zero (run (textChecks text ++ later)) f told) in
-    let zero = both-zero (locationChecks (locationIn text)) (spanChecks f) (location-numbered (locationIn text)) (text-zero .1) in
+    let text-zero = both-pass (textChecks text) later (text-numbered text) (told-zero (run (textChecks text ++ later)) f told) in
+    let zero = both-pass (locationChecks (locationIn text)) (spanChecks f) (location-numbered (locationIn text)) (text-zero .1) in
     record {
       letters = text-passed text (text-zero .0);
       located = location-passed (locationIn text) (zero .0);

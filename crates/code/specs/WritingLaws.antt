@@ -7,24 +7,13 @@ use lib.Dec.{T, eqb, leb, ltb}
 use lib.ListN.{length, drop}
 use borrow.Author.Tests.{ltb-false, leb-false, eqb-true, not-false, eq-eqb, ne-eqb, lt-ltb, le-ltb, lt-leb}
 use Rattle.replies.specs.Replies.{Said, refused, accepted, Check, run, outcome}
-use Rattle.replies.specs.RepliesLaws.{numbered, Passed, passed, run-append}
+use Rattle.replies.specs.RepliesLaws.{Passed, passed, run-append, both-pass}
 use Rattle.facts.specs.Tests.{neither, none-of}
 use Rattle.ground.specs.Levels.{latEnd, lonEnd, finestLevel, smallestSize}
 use Rattle.location.specs.LocationLaws.{Angle}
 use Rattle.spelling.specs.Spelling.{spelledBoth}
 use Rattle.code.specs.declared.Fields.{Fields}
 use Rattle.code.specs.Code.{codeOf, outside, noReference, noPoint, noSpans, roomCheck, fieldChecks, writing}
-
--- Where two tables, one after the other, say number 0, each does
-pub both-zero : (cs ds : List Check) → T (numbered cs) → run (cs ++ ds) .number ≡ 0 → (run cs .number ≡ 0) × (run ds .number ≡ 0)
-both-zero cs ds t e = at (eqb (run cs .number) 0) refl (rw (run-append cs ds t) at e)
-  where
-    at : (b : Bool) → eqb (run cs .number) 0 ≡ b → cond b (run ds) (run cs) .number ≡ 0 → (run cs .number ≡ 0) × (run ds .number ≡ 0)
-    at true k h = (eqb-true (run cs .number) 0 k, h)
-    at false k h = (h, absurd (contrary (eq-eqb (run cs .number) 0 h) k))
-      where
-        contrary : {b : Bool} → b ≡ true → b ≡ false → ⊥
-        contrary p q = let z : _≡_ {A = Bool} true false = cc in absurd (true≢false z)
 
 -- A code has twenty bytes
 pub code-twenty : (f : Fields) → length (codeOf f) ≡ 20
@@ -136,7 +125,7 @@ good-writing room f h g = rw (room-then room f h ∙ good-pass f g)
 pub zero-writing : (room : List ℕ) (f : Fields) → writing room f .said .number ≡ 0 → (20 ≤ length room) × Good f
 unfolding writing roomCheck
 zero-writing room f e =
-    let z = both-zero (roomCheck room) (fieldChecks f) tt e in
+    let z = both-pass (roomCheck room) (fieldChecks f) tt e in
     (room-passed room (z .0), fields-passed f (z .1))
 
 pub accepted-writing : (room : List ℕ) (f : Fields) → writing room f .said ≡ accepted → (20 ≤ length room) × Good f

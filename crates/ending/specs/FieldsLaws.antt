@@ -10,11 +10,12 @@ use Rattle.ground.specs.declared.Point.{Point}
 use Rattle.ground.specs.declared.Rectangle.{Rectangle}
 use Rattle.ground.specs.declared.Cell.{Cell}
 use Rattle.ground.specs.Levels.{distance, lat, lon, finestLevel, smallestSize, sizeOf}
-use Rattle.ground.specs.Cells.{sidesOf, centreOf, locationCell, cornerOf}
+use Rattle.ground.specs.Cells.{sidesOf, locationCell, cornerOf}
+use Rattle.ground.specs.Rectangles.{centreOf}
 use Rattle.code.specs.declared.Fields.{Fields}
 use Rattle.unit.specs.Extents.{spanOf}
 use Rattle.unit.specs.Unit.{scaleOf, spanCells, fieldsOf}
-use Rattle.unit.specs.Scale.{scale-size}
+use Rattle.unit.specs.ScaleLaws.{scale-size}
 
 -- A span is within a u32
 pub cells-most : (s d : ℕ) → smallestSize ≤ s → d < 4294967296 → s < 4294967296 → (d + (s - 1)) / s ≤ 268435456

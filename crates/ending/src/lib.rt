@@ -7,7 +7,7 @@ pub use scale::scale_of;
 ghost use mathlib.Core.Path.{_≡_};
 ghost use Rattle.code.specs.Code.{writing};
 ghost use Rattle.unit.specs.Frame.{leaves, ending, finishing};
-ghost use Rattle.unit.specs.declared.Choice.the-variants.{At};
+ghost use Rattle.chosen.specs.declared.Choice.the-variants.{At};
 use code::Fields;
 use ground::Cell;
 use ground::Rectangle;
@@ -19,7 +19,7 @@ use unit::Coded;
 fn end(room: &mut [u8], f: Fields) -> Coded
     ensures { λ a. ⌜ leaves a (now (room .exit)) ≡ ending (writing (now (room .entry)) f) ⌝ }
 {
-    let answer = code::write(room, f);
+    let answer = writer::write(room, f);
     if code::written_number(answer) == 0 {
         return Coded::Accepted;
     }

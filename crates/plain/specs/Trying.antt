@@ -8,13 +8,12 @@ use Rattle.ground.specs.declared.Point.{Point}
 use Rattle.ground.specs.declared.Rectangle.{Rectangle}
 use Rattle.ground.specs.declared.Cell.{Cell}
 use Rattle.ground.specs.Levels.{lat, lon, latEnd}
-use Rattle.ground.specs.Cells.{lowSide, sidesOf, IsCell}
-use Rattle.ground.specs.CellTest.{isCell, is-cell}
-use Rattle.ground.specs.Sides.{side-end}
+use Rattle.ground.specs.Cells.{lowSide, sidesOf, IsCell, isCell}
+use Rattle.ground.specs.CellsLaws.{is-cell}
+use Rattle.ground.specs.SidesLaws.{side-end}
 use Rattle.boundary.specs.Boundary.{inside}
-use Rattle.unit.specs.declared.Choice.the-variants.{At, Nowhere}
-use Rattle.unit.specs.Choosing.{Over}
-use Rattle.unit.specs.Chosen.{sidesOver, firstAmong, trySouth, tryWest, tryLevel}
+use Rattle.chosen.specs.declared.Choice.the-variants.{At, Nowhere}
+use Rattle.chosen.specs.Chosen.{Over, sidesOver, firstAmong, trySouth, tryWest, tryLevel}
 use Rattle.plain.specs.Asked.{Level, West}
 use Rattle.plain.specs.Turns.{SidesLeft, sides-begin}
 

@@ -7,12 +7,12 @@ use mathlib.Core.Bool.{Bool, true, false}
 use mathlib.Core.List.{[], _∷_}
 use borrow.Author.Tests.{lt-ltb, le-ltb}
 use Rattle.ground.specs.Cells.{lowSide, highSide}
-use Rattle.ground.specs.CellLaws.{sides-32}
-use Rattle.ground.specs.Sides.{low-low, below-high, high-low}
+use Rattle.ground.specs.CellsLaws.{sides-32}
+use Rattle.ground.specs.SidesLaws.{low-low, below-high, high-low}
 use Rattle.ground.specs.declared.Cell.{Cell}
-use Rattle.unit.specs.declared.Choice.{Choice}
-use Rattle.unit.specs.declared.Choice.the-variants.{At, Nowhere}
-use Rattle.unit.specs.Chosen.{sidesFrom, sidesOver, orElse, firstAmong}
+use Rattle.chosen.specs.declared.Choice.{Choice}
+use Rattle.chosen.specs.declared.Choice.the-variants.{At, Nowhere}
+use Rattle.chosen.specs.Chosen.{sidesFrom, sidesOver, orElse, firstAmong}
 use Rattle.facts.specs.Lists.{countUp}
 use Rattle.plain.specs.Asked.{Level}
 

@@ -2,11 +2,10 @@
 mod search;
 
 ghost use mathlib.Core.Path.{_≡_};
-ghost use Rattle.boundary.specs.Corners.{cornersOf};
-ghost use Rattle.unit.specs.Chosen.{choose};
+ghost use Rattle.corners.specs.Corners.{cornersOf};
+ghost use Rattle.chosen.specs.Chosen.{choose, Over};
 ghost use Rattle.unit.specs.Unit.{coding};
 ghost use Rattle.unit.specs.Frame.{leaves};
-ghost use Rattle.unit.specs.Choosing.{Over};
 use ground::Rectangle;
 use unit::Choice;
 use unit::Coded;

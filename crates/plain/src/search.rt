@@ -1,9 +1,8 @@
 // The search of one level: west sides in turn, and for each of them south sides in turn, until the
 // first cell that is inside.
 ghost use mathlib.Core.Path.{_≡_};
-ghost use Rattle.boundary.specs.Corners.{cornersOf};
-ghost use Rattle.unit.specs.Chosen.{tryWest, tryLevel};
-ghost use Rattle.unit.specs.Choosing.{Over};
+ghost use Rattle.corners.specs.Corners.{cornersOf};
+ghost use Rattle.chosen.specs.Chosen.{tryWest, tryLevel, Over};
 ghost use Rattle.plain.specs.Asked.{Level, West};
 use ground::Cell;
 use ground::Lat;

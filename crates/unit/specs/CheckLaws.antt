@@ -1,53 +1,33 @@
 -- The laws of coding's checks (document 01, "Replies"): what each table leaves where it refuses nothing, and what the tables before a
 -- cell is looked for leave together. Assumes nothing.
-use Prim.Native.Nat.{ℕ, _/_, _%_, _≤_, max}
+use Prim.Native.Nat.{ℕ, suc, _/_, _%_, _≤_}
 use native.Mathlib.Omega.{arith}
-use mathlib.Core.Path.{_≡_, refl, sym, ap, _∙_}
-use mathlib.Core.Bool.{Bool, true, false, _||_, true≢false}
-use mathlib.Core.List.{List, _++_}
-use lib.Dec.{T, eqb, ltb}
+use mathlib.Core.Path.{_≡_, refl}
+use mathlib.Core.Bool.{Bool, true, false, cond, true≢false}
+use mathlib.Core.List.{List, [], _∷_, _++_}
+use lib.Dec.{eqb, ltb}
 use lib.ListN.{length}
-use borrow.Author.Tests.{ltb-true, ltb-false, lt-ltb, le-ltb, eqb-true, eqb-false, not-false}
-use Rattle.replies.specs.Replies.{Said, Check, run}
-use Rattle.replies.specs.RepliesLaws.{numbered, Passed, passed, run-first, run-second}
+use borrow.Author.Tests.{ltb-false, le-ltb, eqb-true, eqb-false, not-false}
+use Rattle.replies.specs.Replies.{Check, run}
+use Rattle.replies.specs.RepliesLaws.{Passed, passed, run-first, run-second, both-pass}
 use Rattle.facts.specs.Tests.{neither}
+use Rattle.facts.specs.Numbers.{max-above}
+use Rattle.facts.specs.Places.{firstPlace}
 use Rattle.ground.specs.declared.Point.{Point}
 use Rattle.ground.specs.declared.Rectangle.{Rectangle}
 use Rattle.ground.specs.declared.Cell.{Cell}
-use Rattle.ground.specs.Levels.{degree}
-use Rattle.code.specs.Writing.{within}
-use Rattle.boundary.specs.Corners.{cornersOf}
+use Rattle.ground.specs.Levels.{degree, latEnd, lonEnd}
+use Rattle.code.specs.WritingLaws.{within}
+use Rattle.corners.specs.Corners.{cornersOf}
 use Rattle.unit.specs.declared.Kind.{Kind}
 use Rattle.unit.specs.declared.Kind.the-variants.{Building, Other}
-use Rattle.unit.specs.declared.Choice.{Choice}
-use Rattle.unit.specs.declared.Choice.the-variants.{At, Nowhere}
+use Rattle.chosen.specs.declared.Choice.{Choice}
+use Rattle.chosen.specs.declared.Choice.the-variants.{At, Nowhere}
 use Rattle.unit.specs.Extents.{extremesOf, latExtent, lonExtent, spanOf}
-use Rattle.unit.specs.Unit.{fieldsOf, chosenCell, aboveDegree, above31}
+use Rattle.unit.specs.Unit.{fieldsOf, chosenCell, aboveRange, aboveDegree, above31}
 use Rattle.unit.specs.Unit.{roomCheck, shapeChecks, groundChecks, numberCheck, cellChecks, cornerChecks, codeChecks}
-use Rattle.unit.specs.Choosing.{InRange, in-range}
+use Rattle.unit.specs.ExtentsLaws.{InRange}
 use Rattle.unit.specs.Frame.{firstChecks}
-
--- Two tables, one after the other
-module _ (cs ds : List Check) (some : T (numbered cs)) where
-  -- What the first says, where it refuses, both say
-  pub stops : {s : Said} → s ≡ run cs → (s .number ≡ 0 → ⊥) → s ≡ run (cs ++ ds)
-  stops e refuses = e ∙ sym (run-first cs ds some (λ z. refuses (ap (λ (t : Said). t .number) e ∙ z)))
-
-  -- and where it does not, what the second says
-  pub goes-on : {s t : Said} → s ≡ run cs → s .number ≡ 0 → t ≡ run ds → t ≡ run (cs ++ ds)
-  goes-on e z k = k ∙ sym (run-second cs ds some (sym (ap (λ (t : Said). t .number) e) ∙ z))
-
-  -- Where they refuse nothing, neither does
-  pub both-pass : run (cs ++ ds) .number ≡ 0 → (run cs .number ≡ 0) × (run ds .number ≡ 0)
-  both-pass e = at (eqb (run cs .number) 0) refl
-    where
-      at : (b : Bool) → eqb (run cs .number) 0 ≡ b → (run cs .number ≡ 0) × (run ds .number ≡ 0)
-      at true k =
-          let first = eqb-true (run cs .number) 0 k in
-          (first, sym (ap (λ (s : Said). s .number) (run-second cs ds some first)) ∙ e)
-      at false k =
-          let refuses = eqb-false (run cs .number) 0 k in
-          absurd (refuses (sym (ap (λ (s : Said). s .number) (run-first cs ds some refuses)) ∙ e))
 
 -- Check 1 leaves room for a code
 pub roomy : (room : ℕ) → run (roomCheck room) .number ≡ 0 → 20 ≤ room
@@ -71,18 +51,23 @@ shaped numbers e = at (passed (shapeChecks numbers) tt e)
         let paired = eqb-false (length numbers % 2) 1 odd in
         record { even = omega arith; least = between .0; most = between .1 }
 
--- The greater of two is above an end where one of them is
-max-above : (end a b : ℕ) → ltb end (max a b) ≡ (ltb end a || ltb end b)
-max-above end a b = at (ltb end a) (ltb end b) refl refl
-  where
-    at : (s t : Bool) → ltb end a ≡ s → ltb end b ≡ t → ltb end (max a b) ≡ (s || t)
-    at true t h k = lt-ltb end (max a b) (omega (arith, ltb-true end a h))
-    at false true h k = lt-ltb end (max a b) (omega (arith, ltb-true end b k))
-    at false false h k = le-ltb end (max a b) (omega (arith, ltb-false end a h, ltb-false end b k))
-
--- so an extent is above a degree where the span is
+-- An extent is above a degree where the span is
 pub span-above : (r : Rectangle) → ltb degree (spanOf r) ≡ aboveDegree r
 span-above r = max-above degree (latExtent r) (lonExtent r)
+
+-- Corners of which none is above its range are within it
+in-range : (corners : List Point) → ltb (firstPlace aboveRange corners) (length corners) ≡ false → InRange corners
+in-range [] e = record { lat = tt; lon = tt }
+in-range (p ∷ ps) e = at (aboveRange p) refl e (in-range ps)
+  where
+    at : (b : Bool) → aboveRange p ≡ b → ltb (cond b 0 (suc (firstPlace aboveRange ps))) (suc (length ps)) ≡ false
+        → (ltb (firstPlace aboveRange ps) (length ps) ≡ false → InRange ps) → InRange (p ∷ ps)
+    at true k e later = let none : ⊥ = omega (arith, ltb-false 0 (suc (length ps)) e) in absurd none
+    at false k e later =
+        let h = neither (ltb latEnd (p .lat .0)) (ltb lonEnd (p .lon .0)) k in
+        let most = ltb-false (suc (firstPlace aboveRange ps)) (suc (length ps)) e in
+        let rest : InRange ps = later (le-ltb (firstPlace aboveRange ps) (length ps) (omega arith)) in
+        record { lat = (ltb-false latEnd (p .lat .0) (h .0), rest .lat); lon = (ltb-false lonEnd (p .lon .0) (h .1), rest .lon) }
 
 -- Checks 4 and 5 leave every corner within the range, and extents of at most a degree
 pub record Grounded (corners : List Point) : Type 0 where

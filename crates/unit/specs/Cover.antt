@@ -16,24 +16,26 @@ use Rattle.ground.specs.declared.Rectangle.{Rectangle}
 use Rattle.ground.specs.declared.Cell.{Cell}
 use Rattle.ground.specs.Levels.{distance, latEnd, lonEnd, sizeOf}
 use Rattle.ground.specs.Cells.{IsCell, locationCell, cornerOf}
-use Rattle.ground.specs.CellLaws.{Placed}
+use Rattle.ground.specs.CellsLaws.{Reference}
 use Rattle.code.specs.declared.Fields.{Fields}
 use Rattle.code.specs.Code.{rectangleOf, writing, reading, Told, tellsOf}
 use Rattle.code.specs.WritingLaws.{Good, good-writing}
 use Rattle.code.specs.Reverse.{reading-written}
-use Rattle.boundary.specs.Corners.{cornersOf}
-use Rattle.boundary.specs.Boundary.{inside}
-use Rattle.boundary.specs.Missing.{Holds}
-use Rattle.facts.specs.Lists.{Each}
+use Rattle.corners.specs.Corners.{cornersOf}
+use Rattle.boundary.specs.Boundary.{edgesOf, inside}
+use Rattle.ground.specs.Rectangles.{Holds}
+use Rattle.facts.specs.Lists.{each-at}
 use Rattle.unit.specs.declared.Kind.{Kind}
-use Rattle.unit.specs.declared.Choice.{Choice}
-use Rattle.unit.specs.declared.Choice.the-variants.{At}
-use Rattle.unit.specs.Extents.{lats, lons, extremesOf, spanOf}
+use Rattle.chosen.specs.declared.Choice.{Choice}
+use Rattle.chosen.specs.declared.Choice.the-variants.{At}
+use Rattle.unit.specs.Extents.{extremesOf, spanOf}
 use Rattle.unit.specs.Unit.{scaleOf, spanCells, fieldsOf, codeAt, chosenCell, above31, coding}
-use Rattle.unit.specs.Scale.{scale-size, scale-written}
-use Rattle.unit.specs.Choosing.{range-ends, choose-chosen}
+use Rattle.unit.specs.ScaleLaws.{scale-size, scale-written}
+use Rattle.unit.specs.ExtentsLaws.{extremes-hold, over-range}
+use Rattle.chosen.specs.Chosen.{Over}
+use Rattle.chosen.specs.ChosenLaws.{choose-chosen}
 use Rattle.unit.specs.CheckLaws.{Grounded, Entered, entered, celled, all-accept}
-use Rattle.unit.specs.InExtents.{least-each, greatest-each, reference-lat, reference-lon, fields-least}
+use Rattle.unit.specs.SpansLaws.{reference-lat, reference-lon, fields-least}
 
 -- So many cells of size s, less one, reach a distance, by less than s beyond it
 pub record Rounded (s d n : ℕ) : Type 0 where
@@ -58,7 +60,7 @@ pub record Encloses (s a b low high : ℕ) : Type 0 where
   pub near-above : high < b + s
 
 -- The sides that reading back gives, in either direction, lie so
-enclosed : {a b r : ℕ} (s end : ℕ) → 0 < s → Placed a b r → b ≤ end
+enclosed : {a b r : ℕ} (s end : ℕ) → 0 < s → Reference a b r → b ≤ end
     → Encloses s a b (r - (spanCells s (distance r a) - 1) * s) (min (r + (spanCells s (distance r b) - 1) * s) end)
 enclosed {a} {b} {r} s end h p k =
     let low = rounded s (distance r a) h in
@@ -79,54 +81,33 @@ pub record Passing (corners : List Point) (number : ℕ) (c : Cell) : Type 0 whe
   pub ground : Grounded corners
   pub most : number ≤ 1048575
   pub cell : IsCell c
-  pub within : inside corners c ≡ true
+  pub within : inside (edgesOf corners) c ≡ true
   pub spans : above31 (unitFields corners number c) ≡ false
 
--- What each element of a list is, the one at a place is
-each-at : {A : Type 0} (P : A → Type 0) (xs : List A) → Each P xs → (i : ℕ) → i < length xs → (d : A) → P (getD xs i d)
-each-at P [] t i h d = let none : ⊥ = omega arith in absurd none
-each-at P (x ∷ xs) t zero h d = t .0
-each-at P (x ∷ xs) t (suc i) h d = each-at P xs (t .1) i (omega arith) d
-
--- A rectangle holds each of the corners whose angles are between its sides
-hold-each : (r : Rectangle) (corners : List Point) → Each (λ (x : ℕ). r .west .0 ≤ x) (lons corners)
-    → Each (λ (x : ℕ). x ≤ r .east .0) (lons corners) → Each (λ (y : ℕ). r .south .0 ≤ y) (lats corners)
-    → Each (λ (y : ℕ). y ≤ r .north .0) (lats corners) → Each (Holds r) corners
-hold-each r [] w e s n = tt
-hold-each r (v ∷ vs) w e s n =
-    (record { west = w .0; east = e .0; south = s .0; north = n .0 }, hold-each r vs (w .1) (e .1) (s .1) (n .1))
-
--- The unit's extremes hold each corner
-extremes-hold : (corners : List Point) → Each (Holds (extremesOf corners)) corners
-unfolding extremesOf
-extremes-hold corners =
-    hold-each (extremesOf corners) corners (least-each (lons corners)) (greatest-each (lons corners)) (least-each (lats corners))
-    (greatest-each (lats corners))
-
 module _ {corners : List Point} {number : ℕ} {c : Cell} (p : Passing corners number c) where
+  -- A search over them could take for granted what it does
+  over : Over (extremesOf corners) (edgesOf corners)
+  over = over-range corners (p .ground .range)
+
   -- The reference lies between the extremes
-  placed-lat : Placed (extremesOf corners .south .0) (extremesOf corners .north .0) (cornerOf (locationCell c) .lat .0)
-  placed-lat = reference-lat corners c (p .cell) (p .within)
+  lat-between : Reference (extremesOf corners .south .0) (extremesOf corners .north .0) (cornerOf (locationCell c) .lat .0)
+  lat-between = reference-lat over c (p .cell) (p .within)
 
-  placed-lon : Placed (extremesOf corners .west .0) (extremesOf corners .east .0) (cornerOf (locationCell c) .lon .0)
-  placed-lon = reference-lon corners c (p .cell) (p .within)
-
-  -- and these end within the range
-  ends : (extremesOf corners .east .0 ≤ lonEnd) × (extremesOf corners .north .0 ≤ latEnd)
-  ends = range-ends corners (p .ground .range)
+  lon-between : Reference (extremesOf corners .west .0) (extremesOf corners .east .0) (cornerOf (locationCell c) .lon .0)
+  lon-between = reference-lon over c (p .cell) (p .within)
 
   -- The fields of the cell are good
   pub fields-good : Good (unitFields corners number c)
   unfolding fieldsOf
   fields-good =
       let f : Fields = unitFields corners number c in
-      let least = fields-least corners number c (p .cell) (p .within) in
+      let least = fields-least over c (p .cell) (p .within) number in
       let ew-sn = neither (ltb 31 (f .east) || ltb 31 (f .west)) (ltb 31 (f .south) || ltb 31 (f .north)) (p .spans) in
       let ew = neither (ltb 31 (f .east)) (ltb 31 (f .west)) (ew-sn .0) in
       let sn = neither (ltb 31 (f .south)) (ltb 31 (f .north)) (ew-sn .1) in
       record {
-        lat = record { whole = placed-lat .whole; below = omega (arith, placed-lat .high, ends .1) };
-        lon = record { whole = placed-lon .whole; below = omega (arith, placed-lon .high, ends .0) };
+        lat = record { whole = lat-between .whole; below = omega (arith, lat-between .high, over .north-end) };
+        lon = record { whole = lon-between .whole; below = omega (arith, lon-between .high, over .east-end) };
         scale = scale-written (spanOf (extremesOf corners)) (omega (arith, p .ground .lat, p .ground .lon));
         east = (least .east, ltb-false 31 (f .east) (ew .0));
         north = (least .north, ltb-false 31 (f .north) (sn .1));
@@ -142,8 +123,8 @@ module _ {corners : List Point} {number : ℕ} {c : Cell} (p : Passing corners n
       let span : ℕ = spanOf (extremesOf corners) in
       let some : 0 < sizeOf (scaleOf span) = omega (arith, scale-size span) in
       record {
-        lon = enclosed (sizeOf (scaleOf span)) lonEnd some placed-lon (ends .0);
-        lat = enclosed (sizeOf (scaleOf span)) latEnd some placed-lat (ends .1);
+        lon = enclosed (sizeOf (scaleOf span)) lonEnd some lon-between (over .east-end);
+        lat = enclosed (sizeOf (scaleOf span)) latEnd some lat-between (over .north-end);
       }
 
   -- Every corner lies within that rectangle
@@ -172,10 +153,10 @@ pub record ReadBack (corners : List Point) (told : Told) : Type 0 where
   pub held : (i : ℕ) → i < length corners → (d : Point) → Holds (told .rectangle) (getD corners i d)
 
 -- The chosen cell of corners that checks 4 and 5 accept is a cell that is inside
-pub chosen-inside : {corners : List Point} → Grounded corners → {c : Cell} → chosenCell corners ≡ At c → IsCell c × (inside corners c ≡ true)
+pub chosen-inside : {corners : List Point} → Grounded corners → {c : Cell} → chosenCell corners ≡ At c → IsCell c × (inside (edgesOf corners) c ≡ true)
 chosen-inside {corners} g {c} chosen =
-    let is = choose-chosen corners (g .range) chosen in
-    (is .cell, true-of (inside corners c) (is .within))
+    let is = choose-chosen (over-range corners (g .range)) chosen in
+    (is .cell, true-of (inside (edgesOf corners) c) (is .within))
 
 -- and with checks 1 to 6 it passes, where its spans do
 pub passing : {room numbers : List ℕ} {number : ℕ} → Entered room numbers number → {c : Cell} → chosenCell (cornersOf numbers) ≡ At c

@@ -6,14 +6,14 @@ use mathlib.Core.List.{List, _++_}
 use lib.Dec.{eqb}
 use Rattle.replies.specs.Replies.{Said, refused, accepted, Check, Outcome}
 use Rattle.ground.specs.declared.Rectangle.{Rectangle}
-use Rattle.ground.specs.CellTest.{isCell}
+use Rattle.ground.specs.Cells.{isCell}
 use Rattle.code.specs.Code.{writing}
 use Rattle.unit.specs.declared.Kind.{Kind}
-use Rattle.unit.specs.declared.Choice.{Choice}
-use Rattle.unit.specs.declared.Choice.the-variants.{At, Nowhere}
+use Rattle.chosen.specs.declared.Choice.{Choice}
+use Rattle.chosen.specs.declared.Choice.the-variants.{At, Nowhere}
 use Rattle.unit.specs.declared.Coded.{Coded}
 use Rattle.unit.specs.declared.Coded.the-variants as coded
-use Rattle.boundary.specs.Corners.{cornersOf}
+use Rattle.corners.specs.Corners.{cornersOf}
 use Rattle.unit.specs.Unit.{fieldsOf, roomCheck, shapeChecks, groundChecks, numberCheck}
 
 -- The number and the place of each answer of coding

@@ -12,18 +12,19 @@ use Rattle.replies.specs.Replies.{Said, Check, check, run, Outcome, outcome}
 use Rattle.facts.specs.Tests.{none-of}
 use Rattle.ground.specs.declared.Rectangle.{Rectangle}
 use Rattle.ground.specs.declared.Cell.{Cell}
-use Rattle.ground.specs.CellTest.{isCell, is-cell}
+use Rattle.ground.specs.Cells.{isCell}
+use Rattle.ground.specs.CellsLaws.{is-cell}
 use Rattle.code.specs.declared.Fields.{Fields}
 use Rattle.code.specs.declared.Written.{Written}
 use Rattle.code.specs.Code as code
 use Rattle.code.specs.Code.{writing, codeOf}
-use Rattle.code.specs.Writing.{code-twenty, Good, good-writing, zero-writing, refused-writing}
-use Rattle.boundary.specs.Corners.{cornersOf}
+use Rattle.code.specs.WritingLaws.{code-twenty, Good, good-writing, zero-writing, refused-writing}
+use Rattle.corners.specs.Corners.{cornersOf}
 use Rattle.unit.specs.declared.Kind.{Kind}
 use Rattle.unit.specs.declared.Coded.{Coded}
 use Rattle.unit.specs.declared.Coded.the-variants as coded
-use Rattle.unit.specs.declared.Choice.{Choice}
-use Rattle.unit.specs.declared.Choice.the-variants.{At, Nowhere}
+use Rattle.chosen.specs.declared.Choice.{Choice}
+use Rattle.chosen.specs.declared.Choice.the-variants.{At, Nowhere}
 use Rattle.unit.specs.Extents.{extremesOf}
 use Rattle.unit.specs.Unit.{fieldsOf, above31, cellChecks, codeAt, chosenCell, codeChecks, coding}
 use Rattle.unit.specs.CheckLaws.{Entered, entered, first-refuses, first-accepts}

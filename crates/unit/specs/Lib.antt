@@ -1,11 +1,10 @@
 pub mod Extents
-pub mod Chosen
 pub mod Unit
-pub mod Scale
-pub mod InExtents
+pub mod ExtentsLaws
+pub mod ScaleLaws
+pub mod SpansLaws
 pub mod SameGround
 pub mod Widening
-pub mod Choosing
 pub mod Frame
 pub mod CheckLaws
 pub mod Cover

@@ -17,11 +17,12 @@ use Rattle.code.specs.declared.Fields.{Fields}
 use Rattle.code.specs.Code.{outside, codeOf}
 use Rattle.unit.specs.declared.Kind.{Kind}
 use Rattle.unit.specs.declared.Kind.the-variants.{Building, Other}
-use Rattle.unit.specs.declared.Choice.{Choice}
-use Rattle.unit.specs.declared.Choice.the-variants.{At, Nowhere}
-use Rattle.boundary.specs.Corners.{cornersOf}
+use Rattle.chosen.specs.declared.Choice.{Choice}
+use Rattle.chosen.specs.declared.Choice.the-variants.{At, Nowhere}
+use Rattle.corners.specs.Corners.{cornersOf}
+use Rattle.boundary.specs.Boundary.{edgesOf}
 use Rattle.unit.specs.Extents.{extremesOf, latExtent, lonExtent, spanOf}
-use Rattle.unit.specs.Chosen.{choose}
+use Rattle.chosen.specs.Chosen.{choose}
 
 -- The finest of so many levels after the coarsest whose nominal size times 32 is greater than a span, else the coarsest
 abbrev pub scaleFrom : ℕ → ℕ → ℕ
@@ -64,7 +65,7 @@ kindOf letter = cond (eqb letter (code "B")) Building Other
 
 -- The chosen cell of a unit's corners
 abbrev pub chosenCell : List Point → Choice
-chosenCell corners = choose corners
+chosenCell corners = choose (extremesOf corners) (edgesOf corners)
 
 -- Check 1: output shorter than 20
 abbrev pub roomCheck : ℕ → List Check

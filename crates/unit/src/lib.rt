@@ -6,7 +6,6 @@ mod extents;
 pub use extents::extremes;
 pub use extents::first_above;
 pub use extents::span;
-use ground::Cell;
 ghost use mathlib.Core.Path.{_≡_};
 ghost use Rattle.unit.specs.Frame.{says};
 ghost use Rattle.unit.specs.Unit.{kindOf};
@@ -25,12 +24,6 @@ pub fn kind_of(letter: u8) -> Kind
         return Kind::Building;
     }
     Kind::Other
-}
-
-// What a search for the chosen cell answers.
-pub enum Choice {
-    At(Cell),
-    Nowhere,
 }
 
 // What coding answers: acceptance, or what is refused (1 to 8).

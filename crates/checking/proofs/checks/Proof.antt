@@ -4,11 +4,12 @@ use mathlib.Core.Path.{_≡_, ap, sym, _∙_}
 use mathlib.Core.List.{List, _++_}
 use borrow.Author.Needs.{needs}
 use Rattle.replies.specs.Replies.{Said, Check, run}
-use Rattle.boundary.specs.Corners.{cornersOf}
+use Rattle.corners.specs.Corners.{cornersOf}
 use Rattle.unit.specs.declared.Kind.{Kind}
 use Rattle.unit.specs.Unit.{roomCheck, shapeChecks, groundChecks, numberCheck}
 use Rattle.unit.specs.Frame.{says, firstChecks}
-use Rattle.unit.specs.CheckLaws.{stops, goes-on, shaped}
+use Rattle.unit.specs.CheckLaws.{shaped}
+use Rattle.replies.specs.RepliesLaws.{stops, goes-on}
 use Rattle.checking.proofs.checks.Statement.{statement}
 use Rattle.checking.proofs.checks.Tie as tie
 

@@ -9,7 +9,7 @@ use borrow.Author.Tests.{lt-ltb, le-ltb}
 use lib.Dec.{ltb}
 use lib.ListN.{length}
 use Rattle.facts.specs.Places.{firstPlace}
-use Rattle.boundary.specs.Corners.{cornersOf, corners-length}
+use Rattle.corners.specs.Corners.{cornersOf, corners-length}
 use Rattle.ground.specs.declared.Rectangle.{Rectangle}
 use Rattle.ground.specs.Levels.{degree}
 use Rattle.unit.specs.Extents.{extremesOf, spanOf}

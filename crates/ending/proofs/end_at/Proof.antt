@@ -1,8 +1,8 @@
 -- `ending::end_at` meets its contract: by the sides found, or none. Assumes nothing.
 use mathlib.Core.Path.{_≡_, ap, sym, _∙_}
 use mathlib.Core.Bool.{true}
-use Rattle.ground.specs.Cells.{sidesOf}
-use Rattle.ground.specs.CellTest.{isCell, found-of, found-none}
+use Rattle.ground.specs.Cells.{sidesOf, isCell}
+use Rattle.ground.specs.CellsLaws.{found-of, found-none}
 use Rattle.code.specs.declared.Fields.{Fields}
 use Rattle.code.specs.Code.{writing}
 use Rattle.unit.specs.Frame.{ending}

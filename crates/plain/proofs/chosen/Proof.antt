@@ -3,8 +3,8 @@ use Prim.Native.Nat.{_-_}
 use native.Mathlib.Omega.{arith}
 use mathlib.Core.Path.{sym, _∙_}
 use borrow.Author.Needs.{needs}
-use Rattle.boundary.specs.Corners.{cornersOf}
-use Rattle.unit.specs.Chosen.{tryLevel, choose}
+use Rattle.corners.specs.Corners.{cornersOf}
+use Rattle.chosen.specs.Chosen.{tryLevel, choose}
 use Rattle.plain.specs.Turns.{LevelsLeft, levels-begin, levels-found, levels-again, levels-end}
 use Rattle.plain.proofs.chosen.Statement.{statement}
 use Rattle.plain.proofs.chosen.Tie as tie

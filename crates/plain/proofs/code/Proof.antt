@@ -2,7 +2,7 @@
 use mathlib.Core.Path.{sym, _∙_}
 use borrow.Author.Needs.{needs}
 use Rattle.unit.specs.FrameLaws.{road-refused, road-entered, road-ends}
-use Rattle.unit.specs.Choosing.{over-range}
+use Rattle.unit.specs.ExtentsLaws.{over-range}
 use Rattle.plain.proofs.code.Statement.{statement}
 use Rattle.plain.proofs.code.Tie as tie
 

@@ -3,7 +3,7 @@ use mathlib.Core.Path.{ap, ap₂, _∙_}
 use borrow.Author.Tests.{ne-eqb}
 use Prim.Native.Nat.{ℕ}
 use Rattle.ground.specs.declared.Point.{Point}
-use Rattle.ground.specs.Cells.{centreOf}
+use Rattle.ground.specs.Rectangles.{centreOf}
 use Rattle.ground.specs.Levels.{lat, lon, finestLevel}
 use Rattle.ending.specs.FieldsLaws.{reference-finest, reference-centre}
 use borrow.Author.Needs.{needs}

@@ -4,7 +4,7 @@ use native.Mathlib.Omega.{arith}
 use mathlib.Core.Path.{sym, subst}
 use borrow.Author.Needs.{needs}
 use Rattle.ground.specs.Levels.{degree}
-use Rattle.ground.specs.Sizes.{size-most}
+use Rattle.ground.specs.LevelsLaws.{size-most}
 use Rattle.ending.specs.Scaling.{Tried, scale-begin, scale-here, scale-before, scale-end}
 use Rattle.ending.proofs.scale.scale_of.Statement.{statement}
 use Rattle.ending.proofs.scale.scale_of.Tie as tie

@@ -5,10 +5,10 @@ use mathlib.Core.Path.{_≡_, sym, subst}
 use borrow.Author.Needs.{needs}
 use Rattle.ground.specs.Levels.{latEnd}
 use Rattle.ground.specs.Cells.{highSide}
-use Rattle.ground.specs.CellTest.{low-below-high}
-use Rattle.ground.specs.Sides.{side-end}
-use Rattle.boundary.specs.Corners.{cornersOf}
-use Rattle.unit.specs.Chosen.{trySouth, tryWest}
+use Rattle.ground.specs.CellsLaws.{low-below-high}
+use Rattle.ground.specs.SidesLaws.{side-end}
+use Rattle.corners.specs.Corners.{cornersOf}
+use Rattle.chosen.specs.Chosen.{trySouth, tryWest}
 use Rattle.plain.specs.Turns.{SidesLeft, sides-found, sides-again, sides-end}
 use Rattle.plain.specs.Trying.{south-tried, souths-begin}
 use Rattle.plain.proofs.search.try_west.Statement.{statement}

@@ -7,8 +7,8 @@ use mathlib.Core.Logic.{_⊎_, inl, inr}
 use mathlib.Core.Bool.{Bool, true, false, cond}
 use lib.Dec.{ltb}
 use borrow.Author.Tests.{ltb-true, ltb-false}
-use Rattle.ground.specs.Levels.{degree, coarsestLevel, finestLevel, smallestSize, sizeOf}
-use Rattle.ground.specs.Sizes.{size-least}
+use Rattle.ground.specs.Levels.{degree, coarsestLevel, finestLevel, IsLevel, smallestSize, sizeOf}
+use Rattle.ground.specs.LevelsLaws.{size-least}
 use Rattle.facts.specs.Numbers.{either-way}
 use Rattle.unit.specs.Unit.{scaleFrom, scaleOf}
 
@@ -49,13 +49,15 @@ module _ (span : ℕ) where
           subst (λ (m : ℕ). sizeOf m * 32 ≤ span) same (ltb-false span (sizeOf (coarsestLevel + suc n) * 32) e)
 
   -- The scale is a level from 9 to 27
-  pub scale-level : (coarsestLevel ≤ scaleOf span) × (scaleOf span ≤ finestLevel)
+  pub scale-level : IsLevel (scaleOf span)
   unfolding scaleOf
-  scale-level = scale-from (finestLevel - coarsestLevel)
+  scale-level =
+      let from = scale-from (finestLevel - coarsestLevel) in
+      record { coarsest = from .0; finest = from .1 }
 
   -- Its size is at least 32
   pub scale-size : smallestSize ≤ sizeOf (scaleOf span)
-  scale-size = size-least (scaleOf span) (scale-level .0) (scale-level .1)
+  scale-size = size-least (scaleOf span) scale-level
 
   -- The nominal size of a finer level, times 32, is at most the span
   pub finer-most : (l : ℕ) → scaleOf span < l → l ≤ finestLevel → sizeOf l * 32 ≤ span
@@ -74,5 +76,5 @@ module _ (span : ℕ) (small : span ≤ degree) where
   scale-written = at (either-way 14 (scaleOf span))
     where
       at : (14 ≤ scaleOf span) ⊎ (scaleOf span < 14) → (14 ≤ scaleOf span) × (scaleOf span ≤ finestLevel)
-      at (inl h) = (h, scale-level span .1)
+      at (inl h) = (h, scale-level span .finest)
       at (inr h) = let none : ⊥ = omega (arith, finer-most span 14 h (omega arith)) in absurd none
