@@ -5,19 +5,18 @@ use mathlib.Core.Path.{_≡_, refl, ap, _∙_, sym}
 use mathlib.Core.Bool.{cond}
 use lib.Dec.{ltb}
 use borrow.Author.Tests.{lt-ltb, le-ltb}
-use Rattle.ground.specs.Levels.{coarsestLevel, finestLevel, sizeOf}
+use Rattle.ground.specs.Levels.{coarsestLevel, finestLevel, IsLevel, sizeOf}
 use Rattle.unit.specs.Unit.{scaleFrom, scaleOf}
 
 -- Such a loop at a level: the level is one, and no finer one is the scale
 pub record Tried (span level : ℕ) : Type 0 where
-  pub coarsest : coarsestLevel ≤ level
-  pub finest : level ≤ finestLevel
+  pub is : IsLevel level
   pub scale : scaleOf span ≡ scaleFrom span (level - coarsestLevel)
 
 -- The first tried is the finest
 pub scale-begin : (span : ℕ) → Tried span finestLevel
 unfolding scaleOf
-scale-begin span = record { coarsest = omega arith; finest = omega arith; scale = refl }
+scale-begin span = record { is = record { coarsest = omega arith; finest = omega arith }; scale = refl }
 
 module _ {span level : ℕ} (t : Tried span level) where
   -- A level that is not the coarsest is tried, and then those before it
@@ -35,8 +34,7 @@ module _ {span level : ℕ} (t : Tried span level) where
   -- and else one before it is
   pub scale-before : coarsestLevel < level → sizeOf level * 32 ≤ span → Tried span (level - 1)
   scale-before h k = record {
-    coarsest = omega arith;
-    finest = omega (arith, t .finest);
+    is = record { coarsest = omega arith; finest = omega (arith, t .is .finest) };
     scale = scale-next h ∙ rw (le-ltb span (sizeOf level * 32) k);
   }
 

@@ -8,11 +8,11 @@ ghost use mathlib.Core.Path.{_≡_};
 ghost use Rattle.code.specs.Code.{writing};
 ghost use Rattle.unit.specs.Frame.{leaves, ending, finishing};
 ghost use Rattle.chosen.specs.declared.Choice.the-variants.{At};
+use chosen::Choice;
 use code::Fields;
 use ground::Cell;
 use ground::Rectangle;
 use ground::Sides;
-use unit::Choice;
 use unit::Coded;
 
 // Writes the code of fields; 8 where writing refuses them.

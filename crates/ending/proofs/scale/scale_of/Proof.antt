@@ -18,7 +18,7 @@ abbrev μ-loop : tie.MeasureT-loop
 most : (c : tie.After-size Inv-loop μ-loop) → c .size .result ≤ degree
 most c =
     let l = c .before .before .loop in
-    subst (λ (k : ℕ). k ≤ degree) (sym (c .size .ensures)) (size-most (l .level) (l .inv .coarsest) (l .inv .finest))
+    subst (λ (k : ℕ). k ≤ degree) (sym (c .size .ensures)) (size-most (l .level) (l .inv .is))
 
 loop-holds : tie.Need-loop-holds Inv-loop μ-loop
 loop-holds c = scale-begin (c .args .span)
