@@ -2,23 +2,23 @@
 mod search;
 
 ghost use mathlib.Core.Path.{_≡_};
-ghost use Rattle.corners.specs.Corners.{cornersOf};
+ghost use Rattle.boundary.specs.Listed.{edgesIn};
 ghost use Rattle.chosen.specs.Chosen.{choose, Over};
 ghost use Rattle.unit.specs.Unit.{coding};
 ghost use Rattle.unit.specs.Frame.{leaves};
+use chosen::Choice;
 use ground::Rectangle;
-use unit::Choice;
 use unit::Coded;
 use unit::Kind;
 
-// The chosen cell: levels 9 to 27 in turn.
-fn chosen(numbers: &[u32], r: Rectangle) -> Choice
-    requires { ⌜ Over (cornersOf (now numbers)) r ⌝ }
-    ensures { λ c. ⌜ c ≡ choose (cornersOf (now (numbers .entry))) ⌝ }
+// The chosen cell over extents and a list of edges: levels 9 to 27 in turn.
+fn chosen(edges: &[u32], r: Rectangle) -> Choice
+    requires { ⌜ Over r (edgesIn (now edges)) ⌝ }
+    ensures { λ c. ⌜ c ≡ choose r (edgesIn (now (edges .entry))) ⌝ }
 {
-    let mut level = 9;
-    while level < 28 {
-        let tried = search::try_level(numbers, r, level);
+    let mut level = ground::COARSEST;
+    while level <= ground::FINEST {
+        let tried = search::try_level(edges, r, level);
         if let Choice::At(c) = tried {
             return Choice::At(c);
         }
@@ -37,5 +37,8 @@ pub fn code(room: &mut [u8], numbers: &[u32], kind: Kind, number: u32) -> Coded
         return said;
     }
     let r = unit::extremes(numbers);
-    ending::finish(room, r, number, chosen(numbers, r))
+    let mut edges = [0u32; 4096];
+    let mut places = [0usize; 1024];
+    let count = boundary::list_edges(numbers, &mut edges, &mut places);
+    ending::finish(room, r, number, chosen(&edges[0..4 * count], r))
 }
