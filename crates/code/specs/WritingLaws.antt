@@ -1,12 +1,12 @@
 -- The laws of writing: what its checks leave, and what it leaves in the room. Assumes nothing.
 use Prim.Native.Nat.{ℕ, _≤_, _<_, _%_}
 use mathlib.Core.Path.{_≡_, refl, ap, _∙_, sym}
-use mathlib.Core.Bool.{Bool, true, false, cond, not, _||_, true≢false}
+use mathlib.Core.Bool.{false, not, _||_}
 use mathlib.Core.List.{List, _++_}
-use lib.Dec.{T, eqb, leb, ltb}
+use lib.Dec.{eqb, leb, ltb}
 use lib.ListN.{length, drop}
 use borrow.Author.Tests.{ltb-false, leb-false, eqb-true, not-false, eq-eqb, ne-eqb, lt-ltb, le-ltb, lt-leb}
-use Rattle.replies.specs.Replies.{Said, refused, accepted, Check, run, outcome}
+use Rattle.replies.specs.Replies.{Said, refused, accepted, run, outcome}
 use Rattle.replies.specs.RepliesLaws.{Passed, passed, run-append, both-pass}
 use Rattle.facts.specs.Tests.{neither, none-of}
 use Rattle.ground.specs.Levels.{latEnd, lonEnd, finestLevel, smallestSize}

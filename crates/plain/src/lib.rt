@@ -2,10 +2,10 @@
 mod search;
 
 ghost use mathlib.Core.Path.{_≡_};
-ghost use Rattle.boundary.specs.Listed.{edgesIn};
+ghost use Rattle.boundary.specs.Listed.{edgesIn, boundaryOf};
 ghost use Rattle.chosen.specs.Chosen.{choose, Over};
 ghost use Rattle.unit.specs.Unit.{coding};
-ghost use Rattle.unit.specs.Frame.{leaves};
+ghost use Rattle.unit.specs.Frame.{leaves, Searched};
 use chosen::Choice;
 use ground::Rectangle;
 use unit::Coded;
@@ -27,6 +27,17 @@ fn chosen(edges: &[u32], r: Rectangle) -> Choice
     Choice::Nowhere
 }
 
+// The chosen cell of a unit: its edges are listed in a room for 1,024 of them, and searched.
+fn chosen_of(numbers: &[u32], r: Rectangle) -> Choice
+    requires { ⌜ Searched (now numbers) r ⌝ }
+    ensures { λ c. ⌜ c ≡ choose r (boundaryOf (now (numbers .entry))) ⌝ }
+{
+    let mut edges = [0u32; 4096];
+    let mut places = [0usize; 1024];
+    let count = boundary::list_edges(numbers, &mut edges, &mut places);
+    chosen(&edges[0..4 * count], r)
+}
+
 // Codes a unit, for all inputs: writes bytes 0 to 19 of the room, or refuses and writes nothing. Its
 // cost grows with the corners times the cells of the levels tried that lie over the extents.
 pub fn code(room: &mut [u8], numbers: &[u32], kind: Kind, number: u32) -> Coded
@@ -37,8 +48,5 @@ pub fn code(room: &mut [u8], numbers: &[u32], kind: Kind, number: u32) -> Coded
         return said;
     }
     let r = unit::extremes(numbers);
-    let mut edges = [0u32; 4096];
-    let mut places = [0usize; 1024];
-    let count = boundary::list_edges(numbers, &mut edges, &mut places);
-    ending::finish(room, r, number, chosen(&edges[0..4 * count], r))
+    ending::finish(room, r, number, chosen_of(numbers, r))
 }

@@ -13,7 +13,7 @@ use Rattle.facts.specs.Places.{firstPlace}
 use Rattle.ground.specs.declared.Point.{Point}
 use Rattle.ground.specs.declared.Rectangle.{Rectangle}
 use Rattle.ground.specs.declared.Cell.{Cell}
-use Rattle.ground.specs.Levels.{lat, lon, degree, latEnd, lonEnd, IsLevel}
+use Rattle.ground.specs.Levels.{lat, lon, latEnd, lonEnd, IsLevel}
 use Rattle.ground.specs.CellsLaws.{cell-wide}
 use Rattle.boundary.specs.Boundary.{edgesOf, inside}
 use Rattle.boundary.specs.Sums.{next}

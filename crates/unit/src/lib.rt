@@ -1,6 +1,6 @@
-// A unit: what coding is, its answers, and the unit's extents. The definitions are in specs/: the
-// chosen cell in Chosen.antt, scale, spans, checks and coding in Unit.antt, the frame that both roads
-// share around their search in Frame.antt.
+// A unit: what coding is, its answers, and the unit's extents. The definitions are in specs/: scale,
+// spans, checks and coding in Unit.antt, the frame that both roads share around their search in
+// Frame.antt.
 mod extents;
 
 pub use extents::extremes;
