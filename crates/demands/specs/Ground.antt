@@ -2,24 +2,20 @@
 -- has a room of its own. Assumes nothing.
 use Prim.Native.Nat.{ℕ}
 use native.Mathlib.Omega.{arith}
-use mathlib.Core.Path.{_≡_, refl, ap, ap₂, sym, _∙_}
+use mathlib.Core.Path.{_≡_, refl, ap, sym, _∙_}
 use mathlib.Core.List.{List}
-use lib.ListN.{take, drop}
-use lib.Seq.{take-at}
-use Rattle.replies.specs.Replies.{Said, accepted, run, Outcome, outcome}
-use Rattle.code.specs.Code.{codeOf}
-use Rattle.code.specs.WritingLaws.{code-twenty}
+use lib.ListN.{take}
+use Rattle.replies.specs.Replies.{accepted, run, Outcome}
 use Rattle.corners.specs.Corners.{cornersOf}
 use Rattle.boundary.specs.Changes.{SameGround}
 use Rattle.unit.specs.declared.Kind.{Kind}
-use Rattle.chosen.specs.declared.Choice.{Choice}
 use Rattle.unit.specs.declared.Coded.{Coded}
 use Rattle.unit.specs.declared.Coded.the-variants as coded
 use Rattle.unit.specs.Extents.{extremesOf}
-use Rattle.unit.specs.Unit.{fieldsOf, codeAt, chosenCell, cornerChecks, coding}
+use Rattle.unit.specs.Unit.{codeAt, chosenCell, cornerChecks, coding}
 use Rattle.unit.specs.Frame.{says, leaves}
 use Rattle.unit.specs.SameGround.{Counted, number-same, code-same}
-use Rattle.unit.specs.Cover as cover
+use Rattle.demands.specs.Coded.{code-told}
 
 -- The same code or the same refusal number: the numbers are the same, and where they are 0 so are bytes 0 to 19 of the two rooms
 abbrev pub SameAnswer : Coded → List ℕ → Coded → List ℕ → Type 0
@@ -44,18 +40,6 @@ module _ (kind : Kind) (number : ℕ) where
   unfolding coding
   number-told room numbers h = rw (h .long, h .even, h .corners)
 
-  -- and so are bytes 0 to 19 of the room, where coding accepts
-  code-told : (room numbers : List ℕ) → coding room numbers kind number .said ≡ accepted
-      → take 20 (coding room numbers kind number .room) ≡ codeAt (extremesOf (cornersOf numbers)) number (chosenCell (cornersOf numbers))
-  unfolding coding
-  code-told room numbers e =
-      let c = cover.coded room numbers kind number e in
-      let r = extremesOf (cornersOf numbers) in
-      let f = fieldsOf r number (c .cell) in
-      ap₂ (λ (said : Said) (choice : Choice). take 20 (outcome said (codeAt r number choice) room .room)) e (c .chosen)
-      ∙ take-at (codeOf f) (drop 20 room) 20 (code-twenty f)
-      ∙ ap (codeAt r number) (sym (c .chosen))
-
   -- Demand 3, from the promises of the two roads
   pub same-answer : (one numbers other others oneLater otherLater : List ℕ) (quick plain : Coded)
       → leaves quick oneLater ≡ coding one numbers kind number
@@ -77,4 +61,4 @@ module _ (kind : Kind) (number : ℕ) where
           → take 20 later ≡ codeAt (extremesOf (cornersOf numbers)) number (chosenCell (cornersOf numbers))
       written room numbers later a promise zero =
           ap (λ (o : Outcome). take 20 (o .room)) promise
-          ∙ code-told room numbers (sym (ap (λ (o : Outcome). o .said) promise) ∙ zero-accepts a zero)
+          ∙ code-told room numbers kind number (sym (ap (λ (o : Outcome). o .said) promise) ∙ zero-accepts a zero)

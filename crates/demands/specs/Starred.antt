@@ -8,9 +8,12 @@ use lib.Dec.{T, eqb}
 use lib.ListN.{replicate}
 use Rattle.replies.specs.Replies.{Said}
 use Rattle.facts.specs.Texts.{bytes}
-use Rattle.ground.specs.Levels.{sizeOf}
-use Rattle.ground.specs.Cells.{afresh, lowSide, highSide, sidesOf, locationCell}
-use Rattle.ground.specs.Rectangles.{centreOf}
+use Rattle.ground.specs.declared.Point.{Point}
+use Rattle.ground.specs.declared.Rectangle.{Rectangle}
+use Rattle.ground.specs.declared.Cell.{Cell}
+use Rattle.ground.specs.Levels.{second, minute, degree, sizeOf}
+use Rattle.ground.specs.Cells.{afresh, lowSide, highSide, sidesOf, locationCell, cornerOf}
+use Rattle.ground.specs.Rectangles.{at, southWest, centreOf}
 use Rattle.letters.specs.Letters.{letters, spelledIn}
 use Rattle.boundary.specs.Boundary.{edgesOf, groundInside}
 use Rattle.side.specs.Side.{left, leftOrOn}
@@ -31,11 +34,16 @@ use Rattle.unit.specs.Unit.{scaleOf, fieldsOf, chosenCell, cornerChecks, coding
 pub data Case : Type 0 where
   codes : Kind → ℕ → List ℕ → String → Case
   refuses : Kind → ℕ → List ℕ → ℕ → Case
+  oneCell : List ℕ → ℕ → ℕ → ℕ → Case
   centres : List ℕ → ℕ → ℕ → ℕ → Case
   reads : String → ℕ → ℕ → ℕ → ℕ → Case
   refusesText : String → ℕ → ℕ → Case
   scales : ℕ → ℕ → Case
   spells : List ℕ → String → Case
+
+-- An angle of so many degrees, minutes and seconds
+abbrev pub angle : ℕ → ℕ → ℕ → ℕ
+angle degrees minutes seconds = degrees * degree + minutes * minute + seconds * second
 
 -- The table; corners are (latitude, longitude)
 abbrev pub starred : List Case
@@ -43,6 +51,9 @@ starred =
     -- 1
     codes Building 1 (294250496 ∷ 857567232 ∷ 294250496 ∷ 857569280 ∷ 294252544 ∷ 857569280 ∷ 294252544 ∷ 857567232 ∷ [])
     "0W7ARCTDHYYRA99A0001"
+    -- the unit is one 1-second cell, of level 21, at 39°54'37", 116°18'54"
+    ∷ oneCell (294250496 ∷ 857567232 ∷ 294250496 ∷ 857569280 ∷ 294252544 ∷ 857569280 ∷ 294252544 ∷ 857567232 ∷ []) 21 (angle 39 54 37)
+    (angle 116 18 54)
     -- 2: west, east, south, north
     ∷ reads "0W7ARCTDHYYRA99A0001" 857567200 857569376 294250464 294252640
     -- 3: 48 seconds are 98,304 u, 60 are 122,880
@@ -84,11 +95,27 @@ sides t west east south north =
     saying (t .said) 0 0 && eqb (t .rectangle .west .0) west && eqb (t .rectangle .east .0) east
     && eqb (t .rectangle .south .0) south && eqb (t .rectangle .north .0) north
 
+-- A point has this latitude and longitude
+abbrev pub lies : Point → ℕ → ℕ → Bool
+lies p lat lon = eqb (p .lat .0) lat && eqb (p .lon .0) lon
+
+-- Two rectangles have the same sides
+abbrev pub sameSides : Rectangle → Rectangle → Bool
+sameSides r s = lies (southWest r) (s .south .0) (s .west .0) && lies (at (r .north) (r .east)) (s .north .0) (s .east .0)
+
+-- A chosen cell has a level and its south-west corner this latitude and longitude, and the unit's extents are its sides
+abbrev pub isUnit : Choice → Rectangle → ℕ → ℕ → ℕ → Bool
+isUnit Nowhere r level lat lon = false
+isUnit (At c) r level lat lon = eqb (c .level) level && lies (cornerOf c) lat lon && sameSides (sidesOf c) r
+
+-- A cell's centre, halfway between its sides as cut
+abbrev pub centre : Cell → Point
+centre c = centreOf (sidesOf c)
+
 -- A chosen cell has a level, and its centre this latitude and longitude
 abbrev pub centred : Choice → ℕ → ℕ → ℕ → Bool
 centred Nowhere level lat lon = false
-centred (At c) level lat lon =
-    eqb (c .level) level && eqb (centreOf (sidesOf c) .lat .0) lat && eqb (centreOf (sidesOf c) .lon .0) lon
+centred (At c) level lat lon = eqb (c .level) level && lies (centre c) lat lon
 
 -- Twenty bytes of room
 abbrev pub room : List ℕ
@@ -110,6 +137,7 @@ holds (codes kind number corners code) =
     saying (coding room corners kind number .said) 0 0 && same (coding room corners kind number .room) (bytes code)
 holds (refuses kind number corners refusal) =
     saying (coding room corners kind number .said) refusal 0 && same (coding room corners kind number .room) room
+holds (oneCell corners level lat lon) = isUnit (chosenCell (cornersOf corners)) (extremesOf (cornersOf corners)) level lat lon
 holds (centres corners level lat lon) = centred (chosenCell (cornersOf corners)) level lat lon
 holds (reads code west east south north) = sides (reading (bytes code)) west east south north
 holds (refusesText text refusal place) = saying (reading (bytes text) .said) refusal place

@@ -50,7 +50,7 @@ fn write_fields(size: usize, fields: Fields, out: &mut [u8], at: usize) -> usize
 
 // Writes a code into the room. The place is always 0.
 fn write_into(room: &mut [u8], fields: Fields, out: &mut [u8], at: usize) -> usize {
-    let answer = code::write(room, fields);
+    let answer = writer::write(room, fields);
     put_said(code::written_number(answer), 0, room, out, at)
 }
 
@@ -59,7 +59,7 @@ pub(crate) fn answer_read(text: &[u8], out: &mut [u8], at: usize) -> usize {
     if text.len() < 5 {
         return at;
     }
-    let answer = code::read(&text[5..]);
+    let answer = reader::read(&text[5..]);
     let end = output::put_decimal(out, at, code::reading_number(answer) as u64);
     let end = put_after_space(out, end, code::reading_place(answer));
     put_read(answer, out, end)

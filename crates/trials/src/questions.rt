@@ -1,4 +1,6 @@
 // Questions about edges, points and cells, answered by `1` for yes, `0` for no.
+ghost use Prim.Native.Nat.{_*_, _≤_};
+ghost use lib.ListN.{length};
 use crate::request::MOST;
 use crate::request::count_in;
 use ground::Cell;
@@ -6,6 +8,9 @@ use ground::Lat;
 use ground::Lon;
 use ground::Point;
 use ground::Rectangle;
+
+// The room for the edges of a line's coordinates: two coordinates are a corner, from which an edge starts.
+const EDGES: usize = 2 * MOST;
 
 pub(crate) fn answer(text: &[u8], out: &mut [u8], at: usize) -> usize {
     if lines::starts(text, b"meets ") {
@@ -39,7 +44,7 @@ fn meets(numbers: [u32; 8]) -> bool {
         south: Lat(numbers[6]),
         north: Lat(numbers[7]),
     };
-    !boundary::misses(a, b, sides)
+    !edge::misses(a, b, sides)
 }
 
 fn point(lat: u32, lon: u32) -> Point {
@@ -47,6 +52,14 @@ fn point(lat: u32, lon: u32) -> Point {
         lat: Lat(lat),
         lon: Lon(lon),
     }
+}
+
+// Lists the edges of a boundary in a lent room and answers how many they are.
+fn list(numbers: &[u32], edges: &mut [u32]) -> usize
+    ensures { λ r. ⌜ 4 * r ≤ length (now (edges .entry)) ⌝ }
+{
+    let mut places = [0usize; MOST / 2];
+    boundary::list_edges(numbers, edges, &mut places)
 }
 
 // `odd LAT LON COORDINATE..`: whether the point has an odd count.
@@ -57,7 +70,9 @@ fn answer_odd(text: &[u8], out: &mut [u8], at: usize) -> usize {
         return at;
     }
     let asked = point(numbers[0], numbers[1]);
-    put_truth(boundary::odd_count(&numbers[2..count], asked), out, at)
+    let mut edges = [0u32; EDGES];
+    let listed = list(&numbers[2..count], &mut edges);
+    put_truth(boundary::odd_count(&edges[0..4 * listed], asked), out, at)
 }
 
 // `inside LEVEL WEST SOUTH COORDINATE..`: whether the cell is inside.
@@ -72,7 +87,9 @@ fn answer_inside(text: &[u8], out: &mut [u8], at: usize) -> usize {
         west: Lon(numbers[1]),
         south: Lat(numbers[2]),
     };
-    put_truth(boundary::inside(&numbers[3..count], cell), out, at)
+    let mut edges = [0u32; EDGES];
+    let listed = list(&numbers[3..count], &mut edges);
+    put_truth(boundary::inside(&edges[0..4 * listed], cell), out, at)
 }
 
 fn put_truth(truth: bool, out: &mut [u8], at: usize) -> usize {
