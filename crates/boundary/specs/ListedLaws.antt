@@ -421,6 +421,14 @@ boundary-few numbers =
         by true h = omega arith
         by false h = omega arith
 
+-- and so no more are listed
+pub listed-count : (numbers edges places : List ℕ) → listedCount numbers edges places ≤ length (boundaryOf numbers)
+listed-count numbers edges places = by (haveRoom numbers edges places)
+  where
+    by : (b : Bool) → cond b (length (boundaryOf numbers)) 0 ≤ length (boundaryOf numbers)
+    by true = omega arith
+    by false = omega arith
+
 -- What is listed fits in the room
 pub listed-fits : (numbers edges places : List ℕ) → 4 * listedCount numbers edges places ≤ length edges
 listed-fits numbers edges places = at (haveRoom numbers edges places) refl

@@ -1,12 +1,13 @@
 -- Document 01, "The listing program": the line automaton. Standard input comes in bytes; a line feed ends a line, and a line's first
--- bytes stand in a room while it comes in. Assumes nothing.
+-- bytes stand in a room while it comes in. What is said of a line is a parameter: for the listing it is `lineSaid` of specs/Lines.antt.
+-- Assumes nothing.
 use Prim.Native.Nat.{ℕ, _+_, _%_, _^_}
 use Prim.Native.Char.{code}
 use mathlib.Core.Bool.{cond}
 use mathlib.Core.List.{List, [], _∷_, _++_}
 use lib.ListN.{length, take, set}
 use lib.Dec.{ltb, eqb}
-use Rattle.lines.specs.Lines.{Coding, lineSaid, replyLine}
+use Rattle.lines.specs.Lines.{Reply, replyLine}
 
 -- the line that comes in: its number, how many of its bytes stand in the room, and the room
 pub record Coming : Type 0 where
@@ -36,17 +37,17 @@ after line [] = line
 after line (b ∷ bytes) = cond (eqb b (code "\n")) (after (next line) bytes) (after (more b line) bytes)
 
 -- the reply to the line that comes in, where it ends here
-abbrev pub reply : Coding → Coming → List ℕ
-reply coding line = replyLine (line .number) (lineSaid coding (take (line .len) (line .room)))
+abbrev pub reply : (List ℕ → Reply) → Coming → List ℕ
+reply said line = replyLine (line .number) (said (take (line .len) (line .room)))
 
 -- the replies to the lines that end in bytes
-unfoldable pub ended : Coding → Coming → List ℕ → List ℕ
-ended coding line [] = []
-ended coding line (b ∷ bytes) = cond (eqb b (code "\n")) (reply coding line ++ ended coding (next line) bytes) (ended coding (more b line) bytes)
+unfoldable pub ended : (List ℕ → Reply) → Coming → List ℕ → List ℕ
+ended said line [] = []
+ended said line (b ∷ bytes) = cond (eqb b (code "\n")) (reply said line ++ ended said (next line) bytes) (ended said (more b line) bytes)
 
 -- "A last line needs no line feed, and none starts after a line feed that ends the input": the reply at the end of the input
-unfoldable pub last : Coding → Coming → List ℕ
-last coding line = cond (eqb (line .len) 0) [] (reply coding line)
+unfoldable pub last : (List ℕ → Reply) → Coming → List ℕ
+last said line = cond (eqb (line .len) 0) [] (reply said line)
 
 -- the bytes of several reads, one after the other
 unfoldable pub together : List (List ℕ) → List ℕ
@@ -54,6 +55,6 @@ together [] = []
 together (bytes ∷ reads) = bytes ++ together reads
 
 -- the replies to an input that comes in several reads
-unfoldable pub listed : Coding → Coming → List (List ℕ) → List ℕ
-listed coding line [] = last coding line
-listed coding line (bytes ∷ reads) = ended coding line bytes ++ listed coding (after line bytes) reads
+unfoldable pub listed : (List ℕ → Reply) → Coming → List (List ℕ) → List ℕ
+listed said line [] = last said line
+listed said line (bytes ∷ reads) = ended said line bytes ++ listed said (after line bytes) reads

@@ -4,15 +4,18 @@
 use mathlib.Core.Path.{_≡_, refl}
 use mathlib.Core.Bool.{true, false}
 use mathlib.Core.List.{[], _∷_, map}
+use lib.ListN.{replicate}
 use Rattle.facts.specs.Texts.{bytes}
-use Rattle.lines.specs.Lines.{outputOf, replies, lineSaid, cut, valueAfter, isNumber, unit, notOfThisForm, form, linesOf, spelling, coded, refused, replyLine}
+use Rattle.lines.specs.Lines.{cut, valueAfter, isNumber, unit, notOfThisForm, form, linesOf, spelling, coded, refused}
+use Rattle.lines.specs.Lines.{replyLine, lineSaid, replies, outputOf}
 
 -- numbers, and what is none
 numbers : map isNumber (bytes "0" ∷ bytes "7" ∷ bytes "10" ∷ bytes "4294967295" ∷ []) ≡ true ∷ true ∷ true ∷ true ∷ []
 unfolding isNumber valueAfter
 numbers = refl
 
-no-numbers : map isNumber (bytes "" ∷ bytes "00" ∷ bytes "01" ∷ bytes "4294967296" ∷ bytes "10000000000" ∷ bytes "-1" ∷ bytes "1x" ∷ []) ≡ false ∷ false ∷ false ∷ false ∷ false ∷ false ∷ false ∷ []
+no-numbers : map isNumber (bytes "" ∷ bytes "00" ∷ bytes "01" ∷ bytes "4294967296" ∷ bytes "10000000000" ∷ bytes "-1" ∷ bytes "1x" ∷ [])
+    ≡ replicate 7 false
 unfolding isNumber valueAfter
 no-numbers = refl
 
@@ -25,7 +28,8 @@ no-coordinates : form (bytes "B 12") ≡ unit 66 12 []
 unfolding form cut isNumber valueAfter
 no-coordinates = refl
 
-other-lines : map form (bytes "" ∷ bytes "B" ∷ bytes "B " ∷ bytes "B 1 " ∷ bytes "B  1" ∷ bytes "b 1" ∷ bytes "BF 1" ∷ bytes " B 1" ∷ []) ≡ notOfThisForm ∷ notOfThisForm ∷ notOfThisForm ∷ notOfThisForm ∷ notOfThisForm ∷ notOfThisForm ∷ notOfThisForm ∷ notOfThisForm ∷ []
+other-lines : map form (bytes "" ∷ bytes "B" ∷ bytes "B " ∷ bytes "B 1 " ∷ bytes "B  1" ∷ bytes "b 1" ∷ bytes "BF 1" ∷ bytes " B 1" ∷ [])
+    ≡ replicate 8 notOfThisForm
 unfolding form cut isNumber valueAfter
 other-lines = refl
 
@@ -56,6 +60,6 @@ unfolding replyLine spelling
 long-number = refl
 
 -- a whole output, where every unit is refused 3 at the place of its own number
-whole-output : outputOf (λ kind number coordinates. refused 3 number) (bytes "F 0\n\nB 7") ≡ bytes "1 refused 3 0\n2 refused 9 0\n3 refused 3 7\n"
+whole-output : outputOf (lineSaid (λ kind number coordinates. refused 3 number)) (bytes "F 0\n\nB 7") ≡ bytes "1 refused 3 0\n2 refused 9 0\n3 refused 3 7\n"
 unfolding outputOf replies lineSaid linesOf cut form isNumber valueAfter replyLine spelling
 whole-output = refl

@@ -1,12 +1,9 @@
--- What the contracts of `lines` cite: the page's definitions, what they mean at a position or in a room, and the laws of both.
+-- What the contracts of `lines` and of the crates above it cite: the page's definitions, a line that comes in, and the laws of both.
 pub mod Lines
+pub mod LinesLaws
 pub mod Automaton
-pub mod Places
-pub mod NumberLaws
-pub mod SpellingLaws
-pub mod RoomLaws
-pub mod Counting
-pub mod UnitLaws
 pub mod AutomatonLaws
-pub mod Replying
+pub mod ReplyLaws
+pub mod Starts
+pub mod StartsLaws
 pub mod Examples

@@ -2,18 +2,14 @@
 -- Assumes nothing.
 use Prim.Native.Nat.{ℕ, zero, suc, _+_, _-_, _*_, _/_, _%_}
 use Prim.Native.Char.{code}
-use mathlib.Core.Bool.{Bool, true, false, cond, not, _&&_, _||_}
+use mathlib.Core.Bool.{Bool, false, cond, not, _&&_, _||_}
 use mathlib.Core.List.{List, [], _∷_, _++_, map}
 use lib.ListN.{length, getD}
 use lib.Dec.{leb, ltb, eqb}
+use Rattle.facts.specs.Lists.{every}
 use Rattle.facts.specs.Texts.{bytes}
 
--- ---- lists and texts
-
--- every element of a list passes a test
-abbrev pub every : {A : Type 0} → (A → Bool) → List A → Bool
-every p [] = true
-every p (x ∷ xs) = p x && every p xs
+-- ---- the pieces of a text
 
 -- pieces whose first is longer by a byte in front
 abbrev pub longer : ℕ → List (List ℕ) → List (List ℕ)
@@ -65,7 +61,8 @@ isKind (b ∷ x ∷ text) = false
 abbrev pub formOf : List (List ℕ) → Form
 formOf [] = notOfThisForm
 formOf (kind ∷ []) = notOfThisForm
-formOf (kind ∷ number ∷ coordinates) = cond (isKind kind && (isNumber number && every isNumber coordinates)) (unit (getD kind 0 0) (value number) (map value coordinates)) notOfThisForm
+formOf (kind ∷ number ∷ coordinates) =
+    cond (isKind kind && (isNumber number && every isNumber coordinates)) (unit (getD kind 0 0) (value number) (map value coordinates)) notOfThisForm
 
 -- the form of a line, whose words have one space between them
 unfoldable pub form : List ℕ → Form
@@ -129,11 +126,11 @@ formSaid coding notOfThisForm = refused 9 0
 unfoldable pub lineSaid : Coding → List ℕ → Reply
 lineSaid coding line = cond (ltb longest (length line)) (refused 10 0) (formSaid coding (form line))
 
--- the replies to lines whose first has a number
-unfoldable pub replies : Coding → ℕ → List (List ℕ) → List ℕ
-replies coding number [] = []
-replies coding number (line ∷ lines) = replyLine number (lineSaid coding line) ++ replies coding (number + 1) lines
+-- the replies to lines whose first has a number, where `said` says what of a line
+unfoldable pub replies : (List ℕ → Reply) → ℕ → List (List ℕ) → List ℕ
+replies said number [] = []
+replies said number (line ∷ lines) = replyLine number (said line) ++ replies said (number + 1) lines
 
 -- the output for an input: lines are numbered from 1
-unfoldable pub outputOf : Coding → List ℕ → List ℕ
-outputOf coding input = replies coding 1 (linesOf input)
+unfoldable pub outputOf : (List ℕ → Reply) → List ℕ → List ℕ
+outputOf said input = replies said 1 (linesOf input)

@@ -12,10 +12,11 @@ use borrow.Author.Tests.{not-true, not-false}
 use Rattle.facts.specs.Tests.{differ, differ-comm, unlike}
 use Rattle.facts.specs.Numbers.{either-way}
 use Rattle.facts.specs.Lists.{countUp}
+use Rattle.ground.specs.declared.Lat.{Lat}
 use Rattle.ground.specs.declared.Lon.{Lon}
 use Rattle.ground.specs.declared.Point.{Point}
 use Rattle.ground.specs.declared.Rectangle.{Rectangle}
-use Rattle.ground.specs.Rectangles.{Within, Lies, Wide, southWest}
+use Rattle.ground.specs.Rectangles.{Within, Lies, Wide, southWest, southOf, northOf, westOf, eastOf}
 use Rattle.ground.specs.RectanglesLaws.{wide-ordered, within-self, within-then, lies-within, corner-lies}
 use Rattle.edge.specs.Edge.{Edge, misses, turns}
 use Rattle.boundary.specs.Boundary.{pointInside, unmet}
@@ -25,7 +26,7 @@ use Rattle.boundary.specs.Keeps.{Keeps, keeps-inner, keeps-drop, keeps-unmet, k
 use Rattle.boundary.specs.Listed.{edgesIn, edgeIn, withEdge}
 use Rattle.boundary.specs.ListedLaws.{edges-length, edges-from, with-length, edge-there, edge-before}
 use Rattle.quick.specs.declared.half.Half.{Half}
-use Rattle.quick.specs.Half.{keptIn, Same, KeptFor, Sound, Part, AllIn}
+use Rattle.quick.specs.Half.{keptIn, Same, KeptFor, Sound, Part, Between, AllIn}
 
 -- Edges that are the same at so many places from one on make the same list
 places-same : (f g : ℕ → Edge) (n i : ℕ) → ((j : ℕ) → i ≤ j → j < i + n → f j ≡ g j) → map f (countUp n i) ≡ map g (countUp n i)
@@ -300,6 +301,20 @@ sound-same {es} {room} {later} {h} s same long =
       };
       odd = s .odd;
     }
+
+module _ {es : List Edge} {room : List ℕ} {h : Half} (s : Sound es room h) where
+  -- The parts of a half's ground on both sides of a latitude or a longitude in it
+  pub south-part : (y : Lat) → Between (h .ground .south .0) (y .0) (h .ground .north .0) → Part h (southOf (h .ground) y)
+  south-part y b = record { wide = omega (arith, s .wide .across, b .above); within = omega (arith, b .below) }
+
+  pub north-part : (y : Lat) → Between (h .ground .south .0) (y .0) (h .ground .north .0) → Part h (northOf (h .ground) y)
+  north-part y b = record { wide = omega (arith, s .wide .across, b .below); within = omega (arith, b .above) }
+
+  pub west-part : (x : Lon) → Between (h .ground .west .0) (x .0) (h .ground .east .0) → Part h (westOf (h .ground) x)
+  west-part x b = record { wide = omega (arith, s .wide .up, b .above); within = omega (arith, b .below) }
+
+  pub east-part : (x : Lon) → Between (h .ground .west .0) (x .0) (h .ground .east .0) → Part h (eastOf (h .ground) x)
+  east-part x b = record { wide = omega (arith, s .wide .up, b .below); within = omega (arith, b .above) }
 
 -- A part of a half that shares its edges
 pub sound-shared : {es : List Edge} {room : List ℕ} {h : Half} {part : Rectangle} → Sound es room h → Part h part

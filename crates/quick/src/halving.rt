@@ -99,7 +99,14 @@ pub(crate) fn by_lat(
 
 // Halves by longitude, and goes on by latitude. East of what is found a cell comes earlier only where it
 // is of a coarser level.
-fn by_lon(edges: &[u32], room: &mut [u32], half: Half, r: Rectangle, finest: u32, left: u32) -> Choice
+fn by_lon(
+    edges: &[u32],
+    room: &mut [u32],
+    half: Half,
+    r: Rectangle,
+    finest: u32,
+    left: u32,
+) -> Choice
     requires { ⌜ ByLon (edgesIn (now edges)) (now room) half r finest left ⌝ }
     ensures { λ c. ⌜ Best (edgesIn (now (edges .entry))) (finest - left / 2) finest (half .ground) c ⌝ }
     ensures { λ _. ⌜ Same (half .to) (now (room .entry)) (now (room .exit)) ⌝ }

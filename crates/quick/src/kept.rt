@@ -146,7 +146,13 @@ fn sorted(edges: &[u32], room: &mut [u32], half: Half, part: Rectangle) -> Half
 
 // A part of a half. With few halvings left, or few edges, it shares the half's edges: asking them again costs
 // less than sorting them.
-pub(crate) fn part_of(edges: &[u32], room: &mut [u32], half: Half, part: Rectangle, left: u32) -> Half
+pub(crate) fn part_of(
+    edges: &[u32],
+    room: &mut [u32],
+    half: Half,
+    part: Rectangle,
+    left: u32,
+) -> Half
     requires { ⌜ Sound (edgesIn (now edges)) (now room) half ⌝ }
     requires { ⌜ Part half part ⌝ }
     ensures { λ h. ⌜ (h .ground ≡ part) × Sound (edgesIn (now (edges .entry))) (now (room .exit)) h ⌝ }

@@ -185,7 +185,11 @@ fn finest_with(r: Rectangle, level: u32) -> u32
     if !short(r, level, 16) {
         return level;
     }
-    if level < FINEST - 7 { level + 7 } else { FINEST }
+    if level < FINEST - 7 {
+        level + 7
+    } else {
+        FINEST
+    }
 }
 
 // The chosen cell: the levels in turn, some together.

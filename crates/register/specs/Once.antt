@@ -1,10 +1,10 @@
--- No second answer meets the contracts of `register`: the line that comes in, the room and the output are all told. Assumes nothing.
+-- No second answer meets the contracts of `register`: the line that comes in, the room and the output have no choice. Assumes nothing.
 use Prim.Native.Nat.{ℕ}
 use mathlib.Core.Path.{_≡_, sym, ap, _∙_}
 use mathlib.Core.List.{List}
+use Rattle.room.specs.Room.{Put}
+use Rattle.room.specs.RoomLaws.{put-only}
 use Rattle.lines.specs.Automaton.{Coming}
-use Rattle.lines.specs.Places.{Put}
-use Rattle.lines.specs.RoomLaws.{put-only}
 use Rattle.register.specs.declared.Line.{Line}
 use Rattle.register.specs.declared.Listed.{Listed}
 use Rattle.register.specs.Said.{coming}
@@ -13,8 +13,9 @@ abbrev listedBy : ℕ → ℕ → ℕ → Listed
 listedBy number len put = record { line = record { number = number; len = len }; put = put }
 
 -- Two answers, rooms and outputs that meet the promises of `reply_all` are the same
-pub listed-once : (left : Coming) (lent text : List ℕ) (a b : Listed) (room other out later : List ℕ) → coming (a .line) room ≡ left → coming (b .line) other ≡ left → Put lent 0 text (a .put) out → Put lent 0 text (b .put) later → (a ≡ b) × (room ≡ other) × (out ≡ later)
-listed-once left lent text a b room other out later e k p q =
+pub listed-once : (comes : Coming) (lent text : List ℕ) (a b : Listed) (room other out later : List ℕ) → coming (a .line) room ≡ comes
+    → coming (b .line) other ≡ comes → Put lent 0 text (a .put) out → Put lent 0 text (b .put) later → (a ≡ b) × (room ≡ other) × (out ≡ later)
+listed-once comes lent text a b room other out later e k p q =
     let same = e ∙ sym k in
     let put = put-only p q in
     let line : a .line ≡ b .line = ap (λ (l : Coming). listedBy (l .number) (l .len) 0 .line) same in (

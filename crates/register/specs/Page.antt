@@ -4,7 +4,7 @@ use Rattle.facts.specs.Texts.{bytes}
 use Rattle.ground.specs.Levels.{sizeOf}
 use Rattle.ground.specs.Cells.{afresh, lowSide, highSide, sidesOf, locationCell}
 use Rattle.ground.specs.Rectangles.{centreOf}
-use Rattle.boundary.specs.Boundary.{edgesOf, inside}
+use Rattle.boundary.specs.Boundary.{edgesOf, groundInside}
 use Rattle.side.specs.Side.{left, leftOrOn}
 use Rattle.edge.specs.Edge.{misses, crossesEast}
 use Rattle.location.specs.Location.{bitsOf, paired, locationOf}
@@ -16,9 +16,9 @@ use Rattle.chosen.specs.Chosen.{choose}
 use Rattle.unit.specs.Unit.{scaleOf, fieldsOf, cornerChecks, coding}
 use Rattle.unit.specs.Unit.{kindOf}
 use Rattle.lines.specs.Lines.{cut, valueAfter, isNumber, form, linesOf, spelling, replyLine, lineSaid, replies, outputOf}
-use Rattle.register.specs.Said.{codeSaid}
+use Rattle.register.specs.Said.{codeSaid, said}
 
-page : outputOf codeSaid (bytes "F 0 0 0 0 960 32 960 32 0\nF 0 0 0 0 961 32 961 32 0\n\nB 0 0 0 0 960 32 960 32 0\n")
+page : outputOf said (bytes "F 0 0 0 0 960 32 960 32 0\nF 0 0 0 0 961 32 961 32 0\n\nB 0 0 0 0 960 32 960 32 0\n")
     ≡ bytes "1 00000000001UY1120000\n2 refused 8 0\n3 refused 9 0\n4 refused 6 0\n"
 unfolding sizeOf
     afresh
@@ -32,7 +32,7 @@ unfolding sizeOf
     leftOrOn
     misses
     crossesEast
-    inside
+    groundInside
     bitsOf
     paired
     locationOf

@@ -7,17 +7,21 @@ use lib.ListN.{replicate}
 use lib.Dec.{eqb}
 use Rattle.replies.specs.Replies.{Outcome}
 use Rattle.unit.specs.Unit.{kindOf, coding}
-use Rattle.lines.specs.Lines.{Coding, Reply, coded, refused}
+use Rattle.lines.specs.Lines.{Coding, Reply, coded, refused, lineSaid}
 use Rattle.lines.specs.Automaton.{Coming}
 use Rattle.register.specs.declared.Line.{Line}
 
 -- "then the code or `refused`, number and place"
 abbrev pub replyOf : Outcome → Reply
-replyOf left = cond (eqb (left .said .number) 0) (coded (left .room)) (refused (left .said .number) (left .said .place))
+replyOf outcome = cond (eqb (outcome .said .number) 0) (coded (outcome .room)) (refused (outcome .said .number) (outcome .said .place))
 
 -- what is said of a unit by the letter of its kind, its number and its coordinates
 unfoldable pub codeSaid : Coding
 codeSaid letter number coordinates = replyOf (coding (replicate 20 0) coordinates (kindOf letter) number)
+
+-- what is said of a line
+abbrev pub said : List ℕ → Reply
+said = lineSaid codeSaid
 
 -- the line that comes in, with the room that its bytes stand in
 abbrev pub coming : Line → List ℕ → Coming

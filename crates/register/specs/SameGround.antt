@@ -24,12 +24,16 @@ SameReply (refused number place) (refused another elsewhere) = number ≡ anothe
 same-reply : (one other : Outcome) → one .said .number ≡ other .said .number → one .room ≡ other .room → SameReply (replyOf one) (replyOf other)
 same-reply one other e k = rw (sym e) (pick (eqb (one .said .number) 0))
   where
-    pick : (b : Bool) → SameReply (cond b (coded (one .room)) (refused (one .said .number) (one .said .place))) (cond b (coded (other .room)) (refused (one .said .number) (other .said .place)))
+    pick : (b : Bool)
+        → SameReply
+        (cond b (coded (one .room)) (refused (one .said .number) (one .said .place)))
+        (cond b (coded (other .room)) (refused (one .said .number) (other .said .place)))
     pick true = k
     pick false = refl
 
 -- Two lines whose lists come from one another by the five changes, and pass the checks on pairing and number of corners
-pub lines-same : (letter number : ℕ) (one other : List ℕ) → Counted (replicate 20 0) one → Counted (replicate 20 0) other → SameGround (cornersOf one) (cornersOf other) → SameReply (codeSaid letter number one) (codeSaid letter number other)
+pub lines-same : (letter number : ℕ) (one other : List ℕ) → Counted (replicate 20 0) one → Counted (replicate 20 0) other
+    → SameGround (cornersOf one) (cornersOf other) → SameReply (codeSaid letter number one) (codeSaid letter number other)
 unfolding codeSaid
 lines-same letter number one other h k ground =
     let same = coding-same h k ground (kindOf letter) number in

@@ -9,10 +9,10 @@ ghost use Prim.Native.Nat.{_*_, _≤_};
 ghost use mathlib.Core.Path.{_≡_};
 ghost use mathlib.Core.List.{[], _∷_};
 ghost use lib.ListN.{length};
+ghost use Rattle.room.specs.Room.{Put};
 ghost use Rattle.lines.specs.Lines.{longest};
 ghost use Rattle.lines.specs.Automaton.{after, ended, last};
-ghost use Rattle.lines.specs.Places.{Put};
-ghost use Rattle.register.specs.Said.{codeSaid, coming};
+ghost use Rattle.register.specs.Said.{said, coming};
 
 // No reply has more bytes: the line's number, `refused`, number and place.
 pub const REPLY: usize = 71;
@@ -33,7 +33,7 @@ pub struct Listed {
 // line's number, its code or its refusal. The rest of the bytes stays in the room.
 pub fn reply_all(line: Line, bytes: &[u8], room: &mut [u8], out: &mut [u8]) -> Listed
     ensures { λ r. ⌜ coming (r .line) (now (room .exit)) ≡ after (coming line (now (room .entry))) (now (bytes .entry)) ⌝ }
-    ensures { λ r. ⌜ Put (now (out .entry)) 0 (ended codeSaid (coming line (now (room .entry))) (now (bytes .entry))) (r .put) (now (out .exit)) ⌝ }
+    ensures { λ r. ⌜ Put (now (out .entry)) 0 (ended said (coming line (now (room .entry))) (now (bytes .entry))) (r .put) (now (out .exit)) ⌝ }
 {
     let mut space = [0u32; reply::MOST];
     let coordinates: &mut [u32] = &mut space;
@@ -57,7 +57,7 @@ fn take_byte(
 ) -> Listed
     requires { ⌜ longest ≤ 2 * length (now coordinates) ⌝ }
     ensures { λ r. ⌜ coming (r .line) (now (room .exit)) ≡ after (coming line (now (room .entry))) (byte ∷ []) ⌝ }
-    ensures { λ r. ⌜ Put (now (out .entry)) at (ended codeSaid (coming line (now (room .entry))) (byte ∷ [])) (r .put) (now (out .exit)) ⌝ }
+    ensures { λ r. ⌜ Put (now (out .entry)) at (ended said (coming line (now (room .entry))) (byte ∷ [])) (r .put) (now (out .exit)) ⌝ }
 {
     if byte == b'\n' {
         let put = reply::reply_held(line.number, room, line.len, coordinates, out, at);
@@ -80,7 +80,7 @@ fn take_byte(
 // Puts the reply to a last line that has no line feed; there is none after a line feed that ends the
 // input.
 pub fn reply_last(line: Line, room: &[u8], out: &mut [u8]) -> usize
-    ensures { λ r. ⌜ Put (now (out .entry)) 0 (last codeSaid (coming line (now (room .entry)))) r (now (out .exit)) ⌝ }
+    ensures { λ r. ⌜ Put (now (out .entry)) 0 (last said (coming line (now (room .entry)))) r (now (out .exit)) ⌝ }
 {
     if line.len == 0 {
         return 0;

@@ -1,10 +1,10 @@
 // The reply to one line.
 ghost use Prim.Native.Nat.{_*_, _≤_};
 ghost use lib.ListN.{length, take};
-ghost use Rattle.lines.specs.Lines.{lineSaid, longest, replyLine};
-ghost use Rattle.lines.specs.Places.{Put};
-ghost use Rattle.register.specs.Said.{codeSaid};
-use lines::Unit;
+ghost use Rattle.room.specs.Room.{Put};
+ghost use Rattle.lines.specs.Lines.{longest, replyLine};
+ghost use Rattle.register.specs.Said.{codeSaid, said};
+use stated::Unit;
 
 // More coordinates than a line has: each takes a space and a digit.
 pub(crate) const MOST: usize = lines::LONGEST / 2;
@@ -19,7 +19,7 @@ pub(crate) fn reply_held(
     at: usize,
 ) -> usize
     requires { ⌜ longest ≤ 2 * length (now coordinates) ⌝ }
-    ensures { λ r. ⌜ Put (now (out .entry)) at (replyLine number (lineSaid codeSaid (take len (now (room .entry))))) r (now (out .exit)) ⌝ }
+    ensures { λ r. ⌜ Put (now (out .entry)) at (replyLine number (said (take len (now (room .entry))))) r (now (out .exit)) ⌝ }
 {
     if room.len() < len {
         return reply_line(number, room, coordinates, out, at);
@@ -30,14 +30,14 @@ pub(crate) fn reply_held(
 // The reply to a line.
 fn reply_line(number: u64, line: &[u8], coordinates: &mut [u32], out: &mut [u8], at: usize) -> usize
     requires { ⌜ longest ≤ 2 * length (now coordinates) ⌝ }
-    ensures { λ r. ⌜ Put (now (out .entry)) at (replyLine number (lineSaid codeSaid (now (line .entry)))) r (now (out .exit)) ⌝ }
+    ensures { λ r. ⌜ Put (now (out .entry)) at (replyLine number (said (now (line .entry)))) r (now (out .exit)) ⌝ }
 {
     if line.len() > lines::LONGEST {
-        return lines::put_refused(out, at, number, 10, 0);
+        return output::put_refused(out, at, number, 10, 0);
     }
-    let unit = lines::unit_of(line, coordinates);
+    let unit = stated::unit_of(line, coordinates);
     let Unit::Stated(letter, unit_number, count) = unit else {
-        return lines::put_refused(out, at, number, 9, 0);
+        return output::put_refused(out, at, number, 9, 0);
     };
     reply_unit(number, letter, unit_number, &coordinates[..count], out, at)
 }
@@ -57,7 +57,7 @@ fn reply_unit(
     let answer = quick::code(&mut code, coordinates, unit::kind_of(letter), number);
     let refusal = unit::coded_number(answer);
     if refusal == 0 {
-        return lines::put_code(out, at, line, &code);
+        return output::put_code(out, at, line, &code);
     }
-    lines::put_refused(out, at, line, refusal, unit::coded_place(answer))
+    output::put_refused(out, at, line, refusal, unit::coded_place(answer))
 }

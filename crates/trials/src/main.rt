@@ -11,6 +11,8 @@
 //                                                 whether the edge from A to B meets the rectangle
 //     odd LAT LON COORDINATE..                    whether the point has an odd count
 //     inside LEVEL WEST SOUTH COORDINATE..        whether the cell is inside
+mod codes;
+mod questions;
 mod request;
 mod road;
 

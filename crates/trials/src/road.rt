@@ -1,8 +1,9 @@
 // Coding a unit by a road: the answers to `plain ROOM KIND NUMBER COORDINATE..` and `quick ..`.
-use lines::Number;
-use lines::Unit;
+use crate::request::MOST;
+use crate::request::put_said;
+use numbers::Number;
+use stated::Unit;
 use unit::Coded;
-use unit::Kind;
 
 // The two roads.
 pub enum Road {
@@ -10,20 +11,21 @@ pub enum Road {
     Quick,
 }
 
-// More numbers than a line has: each takes a space and a digit.
-const MOST: usize = lines::LONGEST / 2;
+// What is asked beside the coordinates: the road, the letter of the kind and the unit number.
+struct Asked {
+    road: Road,
+    letter: u8,
+    number: u32,
+}
 
-// The answer to a request whose room's size starts at a position of the text: number, place, room.
-pub(crate) fn answer(road: Road, text: &[u8], start: usize, out: &mut [u8], at: usize) -> usize {
-    let size = lines::number_at(text, start);
+// The answer to a request that names the road, whose room's size starts after the name and a space.
+pub(crate) fn answer(road: Road, text: &[u8], out: &mut [u8], at: usize) -> usize {
+    let size = numbers::number_at(text, 6);
     let Number::At(size, end) = size else {
-        return lines::put(out, at, b"?");
+        return at;
     };
-    if size > 64 {
-        return lines::put(out, at, b"?");
-    }
     if text.len() <= end {
-        return lines::put(out, at, b"?");
+        return at;
     }
     answer_unit(road, size as usize, &text[end + 1..text.len()], out, at)
 }
@@ -31,47 +33,47 @@ pub(crate) fn answer(road: Road, text: &[u8], start: usize, out: &mut [u8], at: 
 // Codes the unit of a text into a room of so many bytes `.`, 64 at most.
 fn answer_unit(road: Road, size: usize, text: &[u8], out: &mut [u8], at: usize) -> usize {
     let mut numbers = [0u32; MOST];
-    let unit = lines::unit_of(text, &mut numbers);
+    let unit = stated::unit_of(text, &mut numbers);
     let Unit::Stated(letter, number, count) = unit else {
-        return lines::put(out, at, b"?");
+        return at;
     };
-    let mut room = [b'.'; 64];
-    if numbers.len() < count || room.len() < size {
-        return lines::put(out, at, b"?");
+    if numbers.len() < count {
+        return at;
     }
-    code_into(
+    let asked = Asked {
         road,
-        &mut room[0..size],
-        &numbers[0..count],
-        unit::kind_of(letter),
+        letter,
         number,
+    };
+    code_sized(asked, size, &numbers[0..count], out, at)
+}
+
+fn code_sized(asked: Asked, size: usize, numbers: &[u32], out: &mut [u8], at: usize) -> usize {
+    let mut room = [b'.'; 64];
+    if room.len() < size {
+        return at;
+    }
+    code_into(asked, &mut room[0..size], numbers, out, at)
+}
+
+// Codes a unit into the room.
+fn code_into(asked: Asked, room: &mut [u8], numbers: &[u32], out: &mut [u8], at: usize) -> usize {
+    let said = code_by(asked, room, numbers);
+    put_said(
+        unit::coded_number(said),
+        unit::coded_place(said),
+        room,
         out,
         at,
     )
 }
 
 // What a road says.
-fn code_by(road: Road, room: &mut [u8], numbers: &[u32], kind: Kind, number: u32) -> Coded {
+fn code_by(asked: Asked, room: &mut [u8], numbers: &[u32]) -> Coded {
+    let road = asked.road;
+    let kind = unit::kind_of(asked.letter);
     match road {
-        Road::Plain => plain::code(room, numbers, kind, number),
-        Road::Quick => quick::code(room, numbers, kind, number),
+        Road::Plain => plain::code(room, numbers, kind, asked.number),
+        Road::Quick => quick::code(room, numbers, kind, asked.number),
     }
-}
-
-// Codes a unit into the room.
-fn code_into(
-    road: Road,
-    room: &mut [u8],
-    numbers: &[u32],
-    kind: Kind,
-    number: u32,
-    out: &mut [u8],
-    at: usize,
-) -> usize {
-    let said = code_by(road, room, numbers, kind, number);
-    let end = lines::put_decimal(out, at, unit::coded_number(said) as u64);
-    let end = lines::put(out, end, b" ");
-    let end = lines::put_decimal(out, end, unit::coded_place(said) as u64);
-    let end = lines::put(out, end, b" ");
-    lines::put(out, end, room)
 }

@@ -42,7 +42,9 @@ count-requires : tie.Need-count-requires Inv-loop μ-loop
 count-requires c κs = search needs
 
 reply-last-requires : tie.Need-reply-last-requires Inv-loop μ-loop
-reply-last-requires c κs = omega (arith, c .before .before .before .before .before .before .before .before .before .before .before .before .before .before .before .pre .0, c .before .before .before .before .before .before .before .before .before .before .before .before .before .before .before .pre .1 .1, c .before .before .before .before .before .before .before .before .before .before .before .loop .inv .2)
+reply-last-requires c κs =
+    let lent = c .before .before .before .before .before .before .before .before .before .before .before .before .before .before .before .pre in
+    omega (arith, lent .0, lent .1 .1, c .before .before .before .before .before .before .before .before .before .before .before .loop .inv .2)
 
 write-out-requires : tie.Need-write-out-requires Inv-loop μ-loop
 write-out-requires c κs = c .before .before .before .reply-last .ensures .within
@@ -67,9 +69,12 @@ slice-aggregate-reply-all c = search needs
 
 reply-all-requires : tie.Need-reply-all-requires Inv-loop μ-loop
 reply-all-requires c κs =
+    let asked = c .before .before .before .before .before .before .before .before .before .before .before .before .before .before .before .before .args in
     let read = c .before .before .before .before .before .before .before .before .before .read .last .1 .0 in
-    let same : length read ≡ length (c .before .before .before .before .before .before .before .before .before .before .before .before .before .before .before .before .args .input .now) = search needs in
-    omega (arith, length-take (c .before .before .before .before .count .result) read, same, c .before .before .before .before .before .before .before .before .before .before .before .before .before .before .before .before .pre .1 .1, c .before .before .before .before .before .before .before .before .before .before .before .before .loop .inv .2)
+    let same : length read ≡ length (asked .input .now) = search needs in
+    let lent = c .before .before .before .before .before .before .before .before .before .before .before .before .before .before .before .before .pre .1 .1 in
+    let same-output = c .before .before .before .before .before .before .before .before .before .before .before .before .loop .inv .2 in
+    omega (arith, length-take (c .before .before .before .before .count .result) read, same, lent, same-output)
 
 write-out-requires-2 : tie.Need-write-out-requires-2 Inv-loop μ-loop
 write-out-requires-2 c κs = c .before .before .before .before .before .reply-all .ensures .1 .within

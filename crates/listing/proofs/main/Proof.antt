@@ -6,7 +6,7 @@ use Prim.Native.Nat.{ℕ, _*_, _≤_, _<_}
 use mathlib.Core.Path.{sym}
 use lib.Dec.{lit<}
 use lib.ListN.{length, replicate, length-replicate}
-use Rattle.lines.specs.AutomatonLaws.{replyMost}
+use Rattle.lines.specs.ReplyLaws.{replyMost}
 use Rattle.listing.proofs.main.Statement.{statement}
 use Rattle.listing.proofs.main.Tie as tie
 

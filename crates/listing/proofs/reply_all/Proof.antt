@@ -17,10 +17,9 @@ same-length-2 c = search needs
 returns : tie.Need-returns
 returns c =
     let asked = c .before .before .before .before .before .before .before .before .before .before .args in
-    let said = c .before .before .before .before .reply-all in (
-      said .ensures .0,
-      all-written (coming (asked .line) (asked .room .now)) (asked .bytes .now) (asked .output .now) (said .result .put) (said .last .1 .1 .1 .0) (c .before .before .before .before .before .before .before .before .before .before .pre) (said .ensures .1),
-    )
+    let lent = c .before .before .before .before .before .before .before .before .before .before .pre in
+    let puts = c .before .before .before .before .reply-all .ensures in
+    (puts .0, all-written (coming (asked .line) (asked .room .now)) (asked .bytes .now) lent (puts .1))
 
 pub reply-all-spec : {M : Type 1} → statement M
 reply-all-spec = tie.close (tie.spec reply-all-requires same-length same-length-2 returns)

@@ -14,8 +14,7 @@ same-length c = search needs
 returns : tie.Need-returns
 returns c =
     let asked = c .before .before .before .before .before .before .args in
-    let said = c .before .before .reply-last in
-    last-written (coming (asked .line) (asked .room .now)) (asked .output .now) (said .result) (said .last .1 .1 .0) (c .before .before .before .before .before .before .pre) (said .ensures)
+    last-written (coming (asked .line) (asked .room .now)) (c .before .before .before .before .before .before .pre) (c .before .before .reply-last .ensures)
 
 pub reply-last-spec : {M : Type 1} → statement M
 reply-last-spec = tie.close (tie.spec reply-last-requires same-length returns)

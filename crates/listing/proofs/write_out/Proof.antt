@@ -6,7 +6,9 @@ use Rattle.listing.proofs.write_out.Statement.{statement}
 use Rattle.listing.proofs.write_out.Tie as tie
 
 slice-aggregate-write-all : tie.Need-slice-aggregate-write-all
-slice-aggregate-write-all c = sym (length-take-le (c .before .before .args .count) (c .before .before .args .output .now) (c .before .before .pre))
+slice-aggregate-write-all c =
+    let asked = c .before .before .args in
+    sym (length-take-le (asked .count) (asked .output .now) (c .before .before .pre))
 
 write-all-requires : tie.Need-write-all-requires
 write-all-requires c κs = search needs

@@ -1,17 +1,18 @@
--- `register::reply_all` meets its contract. The loop's invariant is `Replying`, whose laws are in lines/specs/Replying.antt.
+-- `register::reply_all` meets its contract. The loop's invariant is `Replying`, whose laws are in output/specs/Replying.antt.
 -- Assumes nothing.
 use borrow.Author.Needs.{needs}
 use Prim.Native.Nat.{_-_}
 use mathlib.Core.Path.{_≡_, refl}
 use lib.ListN.{length}
-use Rattle.lines.specs.Replying.{Replying, replying-begin, replying-step, replying-end}
-use Rattle.register.specs.Said.{codeSaid, coming}
+use Rattle.output.specs.Replying.{Replying, replying-begin, replying-step, replying-end}
+use Rattle.register.specs.Said.{said, coming}
 use Rattle.register.proofs.reply_all.Statement.{statement}
 use Rattle.register.proofs.reply_all.Tie as tie
 
 abbrev Inv-loop : tie.InvT-loop
 Inv-loop bytes room₀ out₀ coordinates₀ listed₀ i₀ room out coordinates listed i =
-    (length room ≡ length room₀) × (length out ≡ length out₀) × (length coordinates ≡ length coordinates₀) × Replying codeSaid (coming (listed₀ .line) room₀) bytes out₀ (coming (listed .line) room) out (listed .put) i
+    (length room ≡ length room₀) × (length out ≡ length out₀) × (length coordinates ≡ length coordinates₀)
+    × Replying said (coming (listed₀ .line) room₀) bytes out₀ (coming (listed .line) room) out (listed .put) i
 
 abbrev μ-loop : tie.MeasureT-loop
 μ-loop bytes room₀ out₀ coordinates₀ listed₀ i₀ room out coordinates listed i = length bytes - i
@@ -22,7 +23,7 @@ slice-aggregate-coordinates c = search needs
 loop-holds : tie.Need-loop-holds Inv-loop μ-loop
 loop-holds c =
     let asked = c .before .before .before .before .args in
-    (refl, refl, refl, replying-begin codeSaid (coming (asked .line) (asked .room .now)) (asked .bytes .now) (asked .out .now))
+    (refl, refl, refl, replying-begin said (coming (asked .line) (asked .room .now)) (asked .bytes .now) (asked .out .now))
 
 shared-slice-read-take-byte : tie.Need-shared-slice-read-take-byte Inv-loop μ-loop
 shared-slice-read-take-byte c = search needs
@@ -38,29 +39,9 @@ loop-less c = search needs
 
 loop-again : tie.Need-loop-again Inv-loop μ-loop
 loop-again c =
-    let asked = c .before .before .before .before .before .before .before .before .before .before .before .before .before .before .before .before .before .args in
     let here = c .before .before .before .before .before .before .before .before .before .before .before .before .loop in
-    let took = c .before .before .before .before .before .before .take-byte in (
-      search needs,
-      search needs,
-      search needs,
-      replying-step
-          codeSaid
-          (coming (asked .line) (asked .room .now))
-          (asked .bytes .now)
-          (asked .out .now)
-          (coming (here .listed .line) (here .room))
-          (here .out)
-          (here .listed .put)
-          (here .i)
-          (here .inv .3)
-          (coming (took .result .line) (took .last .1 .1 .0))
-          (took .result .put)
-          (took .last .1 .1 .1 .1 .0)
-          (search needs)
-          (took .ensures .0)
-          (took .ensures .1),
-    )
+    let took = c .before .before .before .before .before .before .take-byte in
+    (search needs, search needs, search needs, replying-step (here .inv .3) (search needs) (took .ensures .0) (took .ensures .1))
 
 same-length : tie.Need-same-length Inv-loop μ-loop
 same-length c = search needs
@@ -69,20 +50,7 @@ same-length-2 : tie.Need-same-length-2 Inv-loop μ-loop
 same-length-2 c = search needs
 
 returns : tie.Need-returns Inv-loop μ-loop
-returns c =
-    let asked = c .before .before .before .before .before .before .before .args in
-    let here = c .before .before .loop in
-    replying-end
-    codeSaid
-    (coming (asked .line) (asked .room .now))
-    (asked .bytes .now)
-    (asked .out .now)
-    (coming (here .listed .line) (here .room))
-    (here .out)
-    (here .listed .put)
-    (here .i)
-    (here .inv .3)
-    (search needs)
+returns c = replying-end (c .before .before .loop .inv .3) (search needs)
 
 pub reply-all-spec : {M : Type 1} → statement M
 reply-all-spec =

@@ -1,9 +1,7 @@
 -- `register::reply_last` meets its contract: where no byte stands in the room there is no line. Assumes nothing.
-use native.Mathlib.Omega.{arith}
-use mathlib.Core.Path.{sym}
 use Rattle.lines.specs.AutomatonLaws.{last-none, last-some}
-use Rattle.lines.specs.RoomLaws.{put-nil}
-use Rattle.register.specs.Said.{codeSaid, coming}
+use Rattle.room.specs.RoomLaws.{put-nothing}
+use Rattle.register.specs.Said.{said, coming}
 use borrow.Author.Needs.{needs}
 use Rattle.register.proofs.reply_last.Statement.{statement}
 use Rattle.register.proofs.reply_last.Tie as tie
@@ -11,7 +9,7 @@ use Rattle.register.proofs.reply_last.Tie as tie
 returns : tie.Need-returns
 returns c =
     let asked = c .before .before .before .before .args in
-    rw (last-none codeSaid (coming (asked .line) (asked .room .now)) (c .if1 .taken)) (record { ends = omega arith; holds = sym (put-nil (asked .out .now) 0) })
+    rw (last-none said (coming (asked .line) (asked .room .now)) (c .if1 .taken)) (put-nothing (asked .out .now) 0)
 
 slice-aggregate-reply-held : tie.Need-slice-aggregate-reply-held
 slice-aggregate-reply-held c = search needs
@@ -25,7 +23,8 @@ same-length c = search needs
 returns-2 : tie.Need-returns-2
 returns-2 c =
     let asked = c .before .before .before .before .before .before .before .before .before .before .args in
-    rw (last-some codeSaid (coming (asked .line) (asked .room .now)) (c .before .before .before .before .before .before .if1 .left)) (c .before .before .before .reply-held .ensures)
+    let some = last-some said (coming (asked .line) (asked .room .now)) (c .before .before .before .before .before .before .if1 .left) in
+    rw some (c .before .before .before .reply-held .ensures)
 
 pub reply-last-spec : {M : Type 1} → statement M
 reply-last-spec =

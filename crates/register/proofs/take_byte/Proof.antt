@@ -1,9 +1,7 @@
 -- `register::take_byte` meets its contract, by the two laws of one byte. Assumes nothing.
-use native.Mathlib.Omega.{arith}
-use mathlib.Core.Path.{sym}
 use Rattle.lines.specs.AutomatonLaws.{byte-feed, byte-more}
-use Rattle.lines.specs.RoomLaws.{put-nil}
-use Rattle.register.specs.Said.{codeSaid, coming}
+use Rattle.room.specs.RoomLaws.{put-nothing}
+use Rattle.register.specs.Said.{said, coming}
 use borrow.Author.Needs.{needs}
 use Rattle.register.proofs.take_byte.Statement.{statement}
 use Rattle.register.proofs.take_byte.Tie as tie
@@ -26,8 +24,8 @@ same-length-3 c = search needs
 returns : tie.Need-returns
 returns c =
     let asked = c .before .before .before .before .before .before .before .before .before .before .before .before .before .args in
-    let here = coming (asked .line) (asked .room .now) in
-    let fed = byte-feed codeSaid here (asked .byte) (c .before .before .before .before .before .before .before .before .before .if1 .taken) in
+    let feed = c .before .before .before .before .before .before .before .before .before .if1 .taken in
+    let fed = byte-feed said (coming (asked .line) (asked .room .now)) (asked .byte) feed in
     (rw (fed .0, c .wrapping-add-u64 .ensures), rw (fed .1) (c .before .before .before .before .before .reply-held .ensures))
 
 add-requires : tie.Need-add-requires
@@ -39,10 +37,9 @@ same-length-4 c = search needs
 returns-2 : tie.Need-returns-2
 returns-2 c =
     let asked = c .before .before .before .before .before .before .before .before .args in
-    let here = coming (asked .line) (asked .room .now) in
-    let grew = byte-more codeSaid here (asked .byte) (c .before .before .before .before .if1 .left) in
+    let grew = byte-more said (coming (asked .line) (asked .room .now)) (asked .byte) (c .before .before .before .before .if1 .left) in
     let added = c .before .before .add .ensures in
-    (rw (grew .0, added .0, added .1), rw (grew .1) (record { ends = omega arith; holds = sym (put-nil (asked .out .now) (asked .at)) }))
+    (rw (grew .0, added .0, added .1), rw (grew .1) (put-nothing (asked .out .now) (asked .at)))
 
 pub take-byte-spec : {M : Type 1} → statement M
 take-byte-spec =

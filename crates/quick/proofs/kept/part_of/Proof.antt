@@ -1,4 +1,6 @@
 -- `quick::kept::part_of` meets its contract: shared, or sorted. Assumes nothing.
+use mathlib.Core.Path.{refl}
+use Rattle.quick.specs.HalfLaws.{sound-shared}
 use borrow.Author.Needs.{needs}
 use Rattle.quick.proofs.kept.part_of.Statement.{statement}
 use Rattle.quick.proofs.kept.part_of.Tie as tie
@@ -7,7 +9,9 @@ sub-if2 : tie.Need-sub-if2
 sub-if2 c = search needs
 
 returns : tie.Need-returns
-returns c = ?
+returns c =
+    let start = c .before .before .before .before .before in
+    ((refl, sound-shared (start .pre .0) (start .pre .1)), (search needs, λ j k. refl))
 
 sorted-requires : tie.Need-sorted-requires
 sorted-requires c κs = search needs

@@ -18,10 +18,13 @@ same-length-2 c = search needs
 returns : tie.Need-returns
 returns c =
     let asked = c .before .before .before .before .before .before .before .before .before .before .before .args in
-    rw (take-all (asked .len) (asked .room .now) (omega (arith, c .before .before .before .before .before .before .before .if1 .taken))) (c .before .before .before .before .reply-line .ensures)
+    let all = take-all (asked .len) (asked .room .now) (omega (arith, c .before .before .before .before .before .before .before .if1 .taken)) in
+    rw all (c .before .before .before .before .reply-line .ensures)
 
 slice-aggregate-reply-line : tie.Need-slice-aggregate-reply-line
-slice-aggregate-reply-line c = sym (length-take-le (c .before .before .before .before .before .args .len) (c .before .before .before .before .before .args .room .now) (c .before .if1 .left))
+slice-aggregate-reply-line c =
+    let asked = c .before .before .before .before .before .args in
+    sym (length-take-le (asked .len) (asked .room .now) (c .before .if1 .left))
 
 reply-line-requires-2 : tie.Need-reply-line-requires-2
 reply-line-requires-2 c κs = search needs

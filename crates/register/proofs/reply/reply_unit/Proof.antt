@@ -1,10 +1,6 @@
 -- `register::reply::reply_unit` meets its contract: the road keeps its promise in a room of twenty bytes, and its number says whether
 -- there is a code. Assumes nothing.
-use mathlib.Core.Path.{_≡_, sym, ap, _∙_}
-use lib.ListN.{replicate}
-use Rattle.unit.specs.declared.Kind.{Kind}
-use Rattle.unit.specs.Unit.{coding}
-use Rattle.unit.specs.Frame.{says}
+use mathlib.Core.Path.{sym, _∙_}
 use Rattle.register.specs.SaidLaws.{said-code, said-refused}
 use borrow.Author.Needs.{needs}
 use Rattle.register.proofs.reply.reply_unit.Statement.{statement}
@@ -34,11 +30,10 @@ same-length c = search needs
 returns : tie.Need-returns
 returns c =
     let asked = c .before .before .before .before .before .before .before .before .before .before .before .before .before .args in
-    let kind = c .before .before .before .before .before .before .before .before .before .kind-of in
+    let kind = c .before .before .before .before .before .before .before .before .before .kind-of .ensures in
     let road = c .before .before .before .before .before .before .before .before .code2 in
-    let so = road .ensures ∙ ap (λ (k : Kind). coding (replicate 20 0) (asked .coordinates .now) k (asked .number)) (kind .ensures) in
     let accepts = sym (c .before .before .before .before .before .before .coded-number .ensures) ∙ c .before .before .before .before .before .if1 .taken in
-    rw (said-code (asked .letter) (asked .number) (asked .coordinates .now) (road .last .0) (road .result) so accepts) (c .before .before .put-code .ensures)
+    rw (said-code (asked .letter) (asked .number) (asked .coordinates .now) (road .result) kind (road .ensures) accepts) (c .before .before .put-code .ensures)
 
 coded-place-requires : tie.Need-coded-place-requires
 coded-place-requires c κs = search needs
@@ -52,13 +47,12 @@ same-length-2 c = search needs
 returns-2 : tie.Need-returns-2
 returns-2 c =
     let asked = c .before .before .before .before .before .before .before .before .before .before .before .before .before .args in
-    let kind = c .before .before .before .before .before .before .before .before .before .kind-of in
+    let kind = c .before .before .before .before .before .before .before .before .before .kind-of .ensures in
     let road = c .before .before .before .before .before .before .before .before .code2 in
-    let so = road .ensures ∙ ap (λ (k : Kind). coding (replicate 20 0) (asked .coordinates .now) k (asked .number)) (kind .ensures) in
     let number = c .before .before .before .before .before .before .coded-number .ensures in
-    let refuses : says (road .result) .number ≡ 0 → ⊥ = λ (e : says (road .result) .number ≡ 0). c .before .before .before .before .before .if1 .left (number ∙ e) in
-    rw (said-refused (asked .letter) (asked .number) (asked .coordinates .now) (road .last .0) (road .result) so refuses, ← number, ← c .before .before .before .coded-place .ensures)
-    (c .before .before .put-refused .ensures)
+    let other = c .before .before .before .before .before .if1 .left in
+    let refused = said-refused (asked .letter) (asked .number) (asked .coordinates .now) (road .result) kind (road .ensures) (λ e. other (number ∙ e)) in
+    rw (refused, ← number, ← c .before .before .before .coded-place .ensures) (c .before .before .put-refused .ensures)
 
 pub reply-unit-spec : {M : Type 1} → statement M
 reply-unit-spec =

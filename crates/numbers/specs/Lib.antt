@@ -1,0 +1,4 @@
+-- What the contracts of `numbers` cite, the laws of it, and the loop over the numbers of a line.
+pub mod Numbers
+pub mod NumbersLaws
+pub mod Counting

@@ -1,0 +1,58 @@
+-- Replies put into an output: one reply part by part, and a loop over the bytes of a read, where what is put so far, with what the bytes
+-- to come give, is the whole. Assumes nothing.
+use Prim.Native.Nat.{ℕ, _+_, _≤_, _<_}
+use native.Mathlib.Numerals.{add-one}
+use mathlib.Core.Path.{_≡_, refl, sym, ap, _∙_}
+use mathlib.Core.List.{List, [], _∷_, _++_, append-nil, append-assoc}
+use lib.ListN.{length, drop, getD, drop-of-length-le}
+use lib.Seq.{drop-cons}
+use Rattle.room.specs.Room.{Put}
+use Rattle.room.specs.RoomLaws.{put-nothing, put-then, put-four}
+use Rattle.facts.specs.Texts.{bytes}
+use Rattle.lines.specs.Lines.{Reply, decimal, saying, replyLine}
+use Rattle.lines.specs.Automaton.{Coming, after, ended}
+use Rattle.lines.specs.AutomatonLaws.{after-append, ended-append}
+
+-- the line's number, a space, what is said and a line feed
+pub put-reply : (number : ℕ) (said : Reply) {out : List ℕ} {at h i j end : ℕ} {p q r later : List ℕ} → Put out at (decimal number) h p
+    → Put p h (bytes " ") i q → Put q i (saying said) j r → Put r j (bytes "\n") end later → Put out at (replyLine number said) end later
+unfolding replyLine
+put-reply number said = put-four
+
+-- the bytes before the position i are taken, and the replies in them put
+pub record Replying (said : List ℕ → Reply) (start : Coming) (bytes lent : List ℕ) (line : Coming) (out : List ℕ) (put i : ℕ) : Type 0 where
+  pub done : List ℕ
+  pub comes : after start bytes ≡ after line (drop i bytes)
+  pub whole : ended said start bytes ≡ done ++ ended said line (drop i bytes)
+  pub filled : Put lent 0 done put out
+
+pub replying-begin : (said : List ℕ → Reply) (start : Coming) (bytes lent : List ℕ) → Replying said start bytes lent start lent 0 0
+replying-begin said start bytes lent = record { done = []; comes = refl; whole = refl; filled = put-nothing lent 0 }
+
+module _ {said : List ℕ → Reply} {start : Coming} {bytes lent : List ℕ} {line : Coming} {out : List ℕ} {put i : ℕ}
+    (so : Replying said start bytes lent line out put i) where
+  -- a byte further
+  pub replying-step : {further : Coming} {end : ℕ} {later : List ℕ} → i < length bytes → further ≡ after line (getD bytes i 0 ∷ [])
+      → Put out put (ended said line (getD bytes i 0 ∷ [])) end later → Replying said start bytes lent further later end (i + 1)
+  replying-step h e puts =
+      let b : ℕ = getD bytes i 0 in
+      let rest : List ℕ = drop (i + 1) bytes in
+      let here : drop i bytes ≡ b ∷ rest = drop-cons bytes i 0 h ∙ ap (λ (k : ℕ). b ∷ drop k bytes) (sym (add-one i)) in
+      record {
+        done = so .done ++ ended said line (b ∷ []);
+        comes = so .comes ∙ ap (after line) here ∙ after-append said line (b ∷ []) rest ∙ ap (λ (l : Coming). after l rest) (sym e);
+        whole =
+            so .whole
+            ∙ ap (λ (t : List ℕ). so .done ++ ended said line t) here
+            ∙ ap (λ (t : List ℕ). so .done ++ t) (ended-append said line (b ∷ []) rest)
+            ∙ sym (append-assoc (so .done) (ended said line (b ∷ [])) (ended said (after line (b ∷ [])) rest))
+            ∙ ap (λ (l : Coming). so .done ++ ended said line (b ∷ []) ++ ended said l rest) (sym e);
+        filled = put-then (so .filled) puts;
+      }
+
+  -- past the bytes' end
+  pub replying-end : length bytes ≤ i → (line ≡ after start bytes) × Put lent 0 (ended said start bytes) put out
+  unfolding after ended
+  replying-end h =
+      let none = drop-of-length-le bytes h in
+      (sym (so .comes ∙ ap (after line) none), rw (so .whole, none, append-nil (so .done)) (so .filled))

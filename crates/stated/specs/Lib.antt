@@ -1,0 +1,3 @@
+-- What the contract of `stated` cites, and its laws.
+pub mod Stated
+pub mod StatedLaws
