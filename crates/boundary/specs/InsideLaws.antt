@@ -1,21 +1,46 @@
--- Ground that is inside (document 01, "The cell inside"): no edge meets ground within it, and the count is odd at each of its points.
--- Assumes nothing.
+-- Ground that is inside (document 01, "The cell inside"): no edge meets ground within it, the count is odd at each of its points, and a
+-- notch between its corners is seen. Assumes nothing.
 use mathlib.Core.Path.{_≡_, refl, ap, ap₂, sym, _∙_}
-use mathlib.Core.Bool.{Bool, true, _&&_}
+use mathlib.Core.Bool.{Bool, true, false, _&&_}
 use mathlib.Core.List.{List, [], _∷_}
 use Rattle.facts.specs.Tests.{both}
+use Rattle.facts.specs.Lists.{Each}
 use Rattle.ground.specs.declared.Point.{Point}
 use Rattle.ground.specs.declared.Rectangle.{Rectangle}
 use Rattle.ground.specs.declared.Cell.{Cell}
 use Rattle.ground.specs.declared.cells.Sides.the-variants.{Of}
-use Rattle.ground.specs.Rectangles.{Within, Lies, Ordered, Wide, centreOf}
+use Rattle.ground.specs.Levels.{lat, lon, sizeOf}
+use Rattle.ground.specs.Rectangles.{at, Within, Lies, Ordered, Wide, centreOf}
 use Rattle.ground.specs.RectanglesLaws.{wide-ordered, centre-lies, lies-within, lies-wide}
-use Rattle.ground.specs.Cells.{sidesOf, isCell, sidesFound}
+use Rattle.ground.specs.Cells.{afresh, highSide, sidesOf, isCell, sidesFound}
 use Rattle.ground.specs.CellsLaws.{found-of}
-use Rattle.edge.specs.Edge.{Edge, misses}
+use Rattle.side.specs.Side.{left, leftOrOn}
+use Rattle.edge.specs.Edge.{Edge, misses, crossesEast}
 use Rattle.edge.specs.MissesLaws.{misses-within}
-use Rattle.boundary.specs.Boundary.{pointInside, unmet, groundInside, inside}
+use Rattle.boundary.specs.Boundary.{edgesOf, pointInside, unmet, groundInside, inside}
 use Rattle.boundary.specs.Closed.{Closed, same-inside}
+
+-- A notch between the corners of a cell (document 01, "Easy errors here"): a square of three cells of level 27 each way, with a notch in its
+-- south side that ends within the middle cell
+abbrev notched : List Point
+notched =
+    at (lat 0) (lon 0) ∷ at (lat 0) (lon 52) ∷ at (lat 40) (lon 54) ∷ at (lat 0) (lon 56)
+    ∷ at (lat 0) (lon 96) ∷ at (lat 96) (lon 96) ∷ at (lat 96) (lon 0) ∷ []
+
+abbrev middle : Cell
+middle = record { level = 27; west = lon 32; south = lat 32 }
+
+-- The cell's four corners and its centre are inside
+pub notch-apart : let r : Rectangle = sidesOf middle in
+    Each (λ (p : Point). pointInside p (edgesOf notched) ≡ true)
+    (at (r .south) (r .west) ∷ at (r .south) (r .east) ∷ at (r .north) (r .west) ∷ at (r .north) (r .east) ∷ centreOf r ∷ [])
+unfolding edgesOf crossesEast left centreOf sidesOf highSide afresh sizeOf
+notch-apart = (refl, (refl, (refl, (refl, (refl, tt)))))
+
+-- and the cell is not, since the notch's edges meet it
+pub notch-seen : inside (edgesOf notched) middle ≡ false
+unfolding groundInside edgesOf misses leftOrOn crossesEast left centreOf sidesOf highSide afresh sizeOf
+notch-seen = refl
 
 -- Edges that miss a rectangle miss every rectangle within it
 pub unmet-within : {r s : Rectangle} → Ordered r → Within r s → (es : List Edge) → unmet s es ≡ true → unmet r es ≡ true

@@ -79,9 +79,7 @@ pub fn span(r: Rectangle) -> u32
 fn above_range(p: Point) -> bool
     ensures { λ r. ⌜ r ≡ aboveRange p ⌝ }
 {
-    let lat = p.lat;
-    let lon = p.lon;
-    ground::LAT_END < lat.0 || ground::LON_END < lon.0
+    ground::LAT_END < p.lat.0 || ground::LON_END < p.lon.0
 }
 
 // The place of the first corner with a coordinate above its range, or the count of corners.
