@@ -10,8 +10,8 @@ use mathlib.Core.List.{List, [], _∷_, _++_, map, append-nil, append-assoc}
 use lib.Dec.{leb, ltb, eqb}
 use lib.ListN.{length, getD, take, drop, set, length-set, length-append, length-drop, drop-of-length-le}
 use lib.Seq.{sets, sets-eq, length-sets, length-take-le, set-at, take-at, drop-at, drop-drop, drop-cons, getD-take, getD-append-add}
-use borrow.Author.Tests.{lt-ltb, le-ltb, eq-eqb, ne-eqb, not-true, not-false, le-leb}
-use Rattle.facts.specs.Tests.{differ, differ-comm, unlike}
+use borrow.Author.Tests.{lt-ltb, le-ltb, eq-eqb, ne-eqb, not-true, not-false, le-leb, leb-true}
+use Rattle.facts.specs.Tests.{both, differ, differ-comm, unlike}
 use Rattle.facts.specs.Lists.{countUp}
 use Rattle.ground.specs.declared.Point.{Point}
 use Rattle.ground.specs.declared.Rectangle.{Rectangle}
@@ -428,6 +428,16 @@ listed-count numbers edges places = by (haveRoom numbers edges places)
     by : (b : Bool) → cond b (length (boundaryOf numbers)) 0 ≤ length (boundaryOf numbers)
     by true = omega arith
     by false = omega arith
+
+-- What is listed fits in the room
+pub listed-fits : (numbers edges places : List ℕ) → 4 * listedCount numbers edges places ≤ length edges
+listed-fits numbers edges places = at (haveRoom numbers edges places) refl
+  where
+    at : (b : Bool) → haveRoom numbers edges places ≡ b → 4 * cond b (length (boundaryOf numbers)) 0 ≤ length edges
+    at true e =
+        let first = both (leb (length numbers / 2) (length edges / 4)) (leb (length numbers / 2) (length places)) e .0 in
+        omega (arith, boundary-few numbers, leb-true (length numbers / 2) (length edges / 4) first)
+    at false e = omega arith
 
 -- The edges that listing puts at the start of a room are the boundary's
 pub listed-boundary : (numbers edges places : List ℕ) → haveRoom numbers edges places ≡ true

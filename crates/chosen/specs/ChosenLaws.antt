@@ -3,7 +3,7 @@
 use Prim.Native.Nat.{ℕ, zero, suc, _+_, _-_, _*_, _/_, _≤_, _<_}
 use native.Mathlib.Nat.{eq-or-lt-of-le}
 use native.Mathlib.Omega.{arith}
-use mathlib.Core.Path.{_≡_, refl, sym, ap, subst, subst₂, _∙_}
+use mathlib.Core.Path.{_≡_, refl, sym, ap, ap₂, subst, subst₂, _∙_}
 use mathlib.Core.Logic.{_⊎_, inl, inr}
 use mathlib.Core.Bool.{Bool, true, false, cond}
 use mathlib.Core.List.{List, [], _∷_}
@@ -326,3 +326,28 @@ module _ {r : Rectangle} {es : List Edge} (o : Over r es) where
         at : (t : Choice) → choose r es ≡ t → t ≡ Nowhere
         at (At c) e = let h : Chosen es c = choose-chosen e in absurd (none c (h .cell) (h .within))
         at Nowhere e = refl
+
+-- Trying numbers in turn gives the same where trying each does
+among-same : (try other : ℕ → Choice) (xs : List ℕ) → ((x : ℕ) → In x xs → try x ≡ other x) → firstAmong try xs ≡ firstAmong other xs
+among-same try other [] agree = refl
+among-same try other (x ∷ xs) agree =
+    ap₂ (λ (c d : Choice). orElse c (λ _. d)) (agree x (inl refl)) (among-same try other xs (λ y m. agree y (inr m)))
+
+-- The computation gives the same over edges that have the same cells of levels 9 to 27 inside
+module _ (r : Rectangle) (es ds : List Edge) (agree : (c : Cell) → IsLevel (c .level) → inside es c ≡ inside ds c) where
+  south-same : (level : ℕ) → IsLevel level → (west south : ℕ) → trySouth es level west south ≡ trySouth ds level west south
+  south-same level l west south =
+      let c : Cell = record { level = level; west = lon west; south = lat south } in
+      ap (λ (b : Bool). cond b (At c) Nowhere) (agree c l)
+
+  west-same : (level : ℕ) → IsLevel level → (west : ℕ) → tryWest r es level west ≡ tryWest r ds level west
+  west-same level l west =
+      among-same (trySouth es level west) (trySouth ds level west) (souths r level) (λ south _. south-same level l west south)
+
+  level-same : (level : ℕ) → IsLevel level → tryLevel r es level ≡ tryLevel r ds level
+  level-same level l = among-same (tryWest r es level) (tryWest r ds level) (wests r level) (λ west _. west-same level l west)
+
+  pub choose-same : choose r es ≡ choose r ds
+  unfolding choose
+  choose-same =
+      among-same (tryLevel r es) (tryLevel r ds) (countUp 19 coarsestLevel) (λ level m. level-same level (levels-are level m))

@@ -1,42 +1,47 @@
--- The twenty characters (document 01, "The twenty characters" and "Replies"): the code of fields, the rectangle, and what writing and
--- reading answer. Assumes nothing.
-use Prim.Native.Nat.{ℕ, _+_, _-_, _*_, _/_, _%_, min}
+-- The twenty characters (document 01, "The twenty characters" and "Replies"): the fields of a code and its two numbers, the rectangle, and
+-- what writing and reading answer. Assumes nothing.
+use Prim.Native.Nat.{ℕ, _+_, _-_, _*_, _/_, _%_, _^_, min}
 use mathlib.Core.Bool.{Bool, cond, not, _||_}
-use mathlib.Core.List.{List, [], _∷_, _++_, map}
+use mathlib.Core.List.{List, [], _∷_, _++_}
 use lib.Dec.{eqb, leb, ltb}
-use lib.ListN.{length, take, drop, getD}
-use Rattle.replies.specs.Replies.{Said, refused, accepted, Check, check, check-at, run, Outcome, outcome}
+use lib.ListN.{length}
+use Rattle.replies.specs.Replies.{Said, refused, accepted, Check, check, run, Outcome, outcome}
 use Rattle.ground.specs.declared.Point.{Point}
 use Rattle.ground.specs.declared.Rectangle.{Rectangle}
-use Rattle.ground.specs.Levels.{lat, lon, latEnd, lonEnd, sizeOf}
-use Rattle.letters.specs.Alphabet.{valueIn, letterIn, firstOther}
-use Rattle.letters.specs.Digits.{digits}
-use Rattle.letters.specs.Letters.{letters, numberIn}
+use Rattle.ground.specs.Levels.{lat, lon, latEnd, lonEnd, finestLevel, smallestSize, sizeOf}
+use Rattle.letters.specs.Digits.{valueOf}
+use Rattle.location.specs.Location.{locationOf, referenceIn, latIn, lonIn, degreesIn, minutesIn, secondsIn, hemisphereIn}
+use Rattle.spelling.specs.Spelling.{spelledBoth, Numbers, numbersIn}
 use Rattle.code.specs.declared.Fields.{Fields}
 use Rattle.code.specs.declared.Written.{Written}
 use Rattle.code.specs.declared.Written.the-variants as written
 use Rattle.code.specs.declared.Reading.{Reading}
 use Rattle.code.specs.declared.Reading.the-variants as reads
-use Rattle.code.specs.Location.{
-  locationOf,
-  formers,
-  latters,
-  angleIn,
-  degreesIn,
-  minutesIn,
-  secondsIn,
-  hemisphereIn,
-}
 
--- Location, 11 characters; scale, 1; four spans, order E, W, S, N; unit number, 4, base 32, high first
-unfoldable pub valuesOf : Fields → List ℕ
-valuesOf f =
-    digits 11 (locationOf (f .reference))
-    ++ (f .scale ∷ f .east ∷ f .west ∷ f .south ∷ f .north ∷ digits 4 (f .number))
+-- The location is one number. The rest is another: scale, 1 character; four spans, order E, W, S, N; unit number, 4 characters, base 32,
+-- high first
+unfoldable pub restOf : Fields → ℕ
+restOf f = valueOf (f .scale ∷ f .east ∷ f .west ∷ f .south ∷ f .north ∷ []) * 32 ^ 4 + f .number
 
--- The code of fields
+-- The code of fields: its two numbers spelled
 unfoldable pub codeOf : Fields → List ℕ
-codeOf f = map (letterIn letters) (valuesOf f)
+codeOf f = spelledBoth (locationOf (f .reference)) (restOf f)
+
+-- The value of a character of the rest, by how many stand after it
+abbrev pub characterIn : ℕ → ℕ → ℕ
+characterIn rest after = rest / 32 ^ after % 32
+
+-- The fields that two numbers tell
+unfoldable pub fieldsIn : ℕ → ℕ → Fields
+fieldsIn location rest = record {
+  reference = referenceIn location;
+  scale = characterIn rest 8;
+  east = characterIn rest 7;
+  west = characterIn rest 6;
+  south = characterIn rest 5;
+  north = characterIn rest 4;
+  number = rest % 32 ^ 4;
+}
 
 -- Reading back: the rectangle runs from the reference by W-1, E-1, S-1 and N-1 cells of size s, and stops at 0, at 90° and at 180°
 unfoldable pub rectangleOf : Fields → Rectangle
@@ -51,9 +56,13 @@ rectangleOf f = record {
 abbrev pub outside : ℕ → ℕ → ℕ → Bool
 outside least most x = ltb x least || ltb most x
 
+-- Whether a scale is not 14 to 27
+abbrev pub noScale : ℕ → Bool
+noScale scale = outside 14 finestLevel scale
+
 -- Whether an angle is no multiple of 32, or at or above its end
 abbrev pub noReference : ℕ → ℕ → Bool
-noReference a end = not (eqb (a % 32) 0) || leb end a
+noReference a end = not (eqb (a % smallestSize) 0) || leb end a
 
 -- Reference not a multiple of 32, or at or above 90° or 180°
 abbrev pub noPoint : Point → Bool
@@ -63,22 +72,22 @@ noPoint p = noReference (p .lat .0) latEnd || noReference (p .lon .0) lonEnd
 abbrev pub noSpans : Fields → Bool
 noSpans f = outside 2 31 (f .east) || outside 2 31 (f .north) || outside 1 31 (f .west) || outside 1 31 (f .south)
 
+-- Writing from fields, 21
+unfoldable pub roomCheck : List ℕ → List Check
+roomCheck room = check 21 (ltb (length room) 20) ∷ []
+
 -- Writing from fields, 22 to 25
 unfoldable pub fieldChecks : Fields → List Check
 fieldChecks f =
     check 22 (noPoint (f .reference))
-    ∷ check 23 (outside 14 27 (f .scale))
+    ∷ check 23 (noScale (f .scale))
     ∷ check 24 (noSpans f)
     ∷ check 25 (ltb 1048575 (f .number))
     ∷ []
 
--- Writing from fields: 21, then the others
-abbrev pub writeChecks : List ℕ → Fields → List Check
-writeChecks room f = check 21 (ltb (length room) 20) ∷ fieldChecks f
-
 -- Writing, from a room and fields to what it says and the room
 unfoldable pub writing : List ℕ → Fields → Outcome
-writing room f = outcome (run (writeChecks room f)) (codeOf f) room
+writing room f = outcome (run (roomCheck room ++ fieldChecks f)) (codeOf f) room
 
 -- The number and the place of each answer of writing
 abbrev pub says : Written → Said
@@ -93,35 +102,15 @@ says written.Number = refused 25 0
 abbrev pub leaves : Written → List ℕ → Outcome
 leaves answer room = record { said = says answer; room = room }
 
--- The parts of a text: the location's 55 bits, the 27 bits of each direction, the value of a character, the unit number
-abbrev pub locationIn : List ℕ → ℕ
-locationIn text = numberIn letters (take 11 text)
+-- A hemisphere bit 1
+abbrev pub otherHemisphere : ℕ → Bool
+otherHemisphere location = ltb 0 (hemisphereIn (latIn location)) || ltb 0 (hemisphereIn (lonIn location))
 
-abbrev pub latIn : List ℕ → ℕ
-latIn text = formers 27 (locationIn text / 2)
+-- Latitude degrees above 89 or longitude degrees above 179
+abbrev pub pastDegrees : ℕ → Bool
+pastDegrees location = ltb 89 (degreesIn (latIn location)) || ltb 179 (degreesIn (lonIn location))
 
-abbrev pub lonIn : List ℕ → ℕ
-lonIn text = latters 27 (locationIn text / 2)
-
-abbrev pub valueAt : List ℕ → ℕ → ℕ
-valueAt text k = valueIn letters (getD text k 0)
-
--- The fields that a text and the bits of its two directions tell
-unfoldable pub fieldsFrom : List ℕ → ℕ → ℕ → Fields
-fieldsFrom text latBits lonBits = record {
-  reference = record { lat = lat (angleIn latBits); lon = lon (angleIn lonBits) };
-  scale = valueAt text 11;
-  east = valueAt text 12;
-  west = valueAt text 13;
-  south = valueAt text 14;
-  north = valueAt text 15;
-  number = numberIn letters (drop 16 text);
-}
-
-abbrev pub fieldsIn : List ℕ → Fields
-fieldsIn text = fieldsFrom text (latIn text) (lonIn text)
-
--- Minutes or seconds above 59
+-- Minutes or seconds above 59, in the bits of a direction
 abbrev pub past59 : ℕ → Bool
 past59 bits = ltb 59 (minutesIn bits) || ltb 59 (secondsIn bits)
 
@@ -129,23 +118,21 @@ past59 bits = ltb 59 (minutesIn bits) || ltb 59 (secondsIn bits)
 abbrev pub shortSpan : Fields → Bool
 shortSpan f = (ltb (f .east) 2 || ltb (f .north) 2) || (ltb (f .west) 1 || ltb (f .south) 1)
 
--- Reading, 13 to 18: what the bits and the values of twenty letters tell
-unfoldable pub letterChecks : List ℕ → List Check
-letterChecks text =
-    check 13 (eqb (locationIn text % 2) 0)
-    ∷ check 14 (ltb 0 (hemisphereIn (latIn text)) || ltb 0 (hemisphereIn (lonIn text)))
-    ∷ check 15 (ltb 89 (degreesIn (latIn text)) || ltb 179 (degreesIn (lonIn text)))
-    ∷ check 16 (past59 (latIn text) || past59 (lonIn text))
-    ∷ check 17 (outside 14 27 (fieldsIn text .scale))
-    ∷ check 18 (shortSpan (fieldsIn text))
+-- Reading, 11 and 12, is on the text: `textChecks` of spelling. 13 to 16 is on the location
+unfoldable pub locationChecks : ℕ → List Check
+locationChecks location =
+    check 13 (eqb (location % 2) 0)
+    ∷ check 14 (otherHemisphere location)
+    ∷ check 15 (pastDegrees location)
+    ∷ check 16 (past59 (latIn location) || past59 (lonIn location))
     ∷ []
 
--- Reading: 11 and 12, then the others
-abbrev pub readChecks : List ℕ → List Check
-readChecks text =
-    check 11 (not (eqb (length text) 20))
-    ∷ check-at 12 (ltb (firstOther letters text) (length text)) (firstOther letters text)
-    ∷ letterChecks text
+-- Reading, 17 and 18, is on the fields
+unfoldable pub spanChecks : Fields → List Check
+spanChecks f =
+    check 17 (noScale (f .scale))
+    ∷ check 18 (shortSpan f)
+    ∷ []
 
 -- What reading tells: number and place, every field and rectangle side
 pub record Told : Type 0 where
@@ -173,13 +160,22 @@ tellsNothing s = record {
   rectangle = record { west = lon 0; east = lon 0; south = lat 0; north = lat 0 };
 }
 
--- What a text tells where its checks say this
-abbrev pub readingOf : Said → List ℕ → Told
-readingOf said text = cond (eqb (said .number) 0) (tellsOf (fieldsIn text)) (tellsNothing said)
+-- What fields tell where the checks say this
+abbrev pub toldWhere : Said → Fields → Told
+toldWhere said f = cond (eqb (said .number) 0) (tellsOf f) (tellsNothing said)
 
--- Reading, from a text to what it tells
+-- Reading from two numbers, of whatever size: 13 to 18. Bits above the location's 55 and the rest's 45 tell nothing
+unfoldable pub readingNumbers : ℕ → ℕ → Told
+readingNumbers location rest =
+    toldWhere (run (locationChecks location ++ spanChecks (fieldsIn location rest))) (fieldsIn location rest)
+
+-- What a text tells where it spells this
+abbrev pub readingOn : Numbers → Told
+readingOn n = cond (eqb (n .said .number) 0) (readingNumbers (n .location) (n .rest)) (tellsNothing (n .said))
+
+-- Reading, from a text to what it tells: its two numbers, 11 and 12, and then what they tell, 13 to 18
 unfoldable pub reading : List ℕ → Told
-reading text = readingOf (run (readChecks text)) text
+reading text = readingOn (numbersIn text)
 
 -- The number, the place, the fields and the sides of each answer of reading
 abbrev pub tells : Reading → Told

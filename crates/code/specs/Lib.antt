@@ -1,8 +1,6 @@
-pub mod Location
-pub mod Bits
 pub mod Code
-pub mod Inner
-pub mod Writing
-pub mod Reading
+pub mod WritingLaws
+pub mod FieldsLaws
+pub mod ReadingLaws
 pub mod Reverse
 pub mod Once

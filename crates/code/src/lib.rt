@@ -1,13 +1,6 @@
-// The twenty characters: writing a code from its fields, and reading one.
-mod location;
-mod reader;
-mod writer;
-
-pub use reader::read;
-pub use writer::write;
+// The twenty characters: the fields of a code, and what writing and reading answer. The
+// definitions of writing and reading are in specs/Code.antt; `writer` and `reader` do the work.
 ghost use mathlib.Core.Path.{_≡_};
-ghost use mathlib.Core.Bool.{_||_};
-ghost use lib.Dec.{ltb};
 ghost use Rattle.code.specs.Code.{outside as Code·outside, says, tells};
 use ground::Point;
 use ground::Rectangle;
@@ -95,16 +88,9 @@ pub fn reading_place(answer: Reading) -> u32
     }
 }
 
-// Whether a is less than b, or c than d.
-fn either_less(a: u32, b: u32, c: u32, d: u32) -> bool
-    ensures { λ r. ⌜ r ≡ (ltb a b || ltb c d) ⌝ }
-{
-    a < b || c < d
-}
-
 // Whether a number is outside a range, ends included.
-fn outside(least: u32, most: u32, x: u32) -> bool
+pub fn outside(least: u32, most: u32, x: u32) -> bool
     ensures { λ r. ⌜ r ≡ Code·outside least most x ⌝ }
 {
-    either_less(x, least, most, x)
+    x < least || most < x
 }

@@ -26,6 +26,13 @@ corners-length [] = refl
 corners-length (a ∷ []) = refl
 corners-length (a ∷ o ∷ rest) = ap suc (corners-length rest) ∙ omega arith
 
+-- Fewer than two numbers make none
+pub no-corners : (numbers : List ℕ) → length numbers / 2 ≡ 0 → cornersOf numbers ≡ []
+unfolding cornersOf
+no-corners [] e = refl
+no-corners (a ∷ []) e = refl
+no-corners (a ∷ o ∷ rest) e = let none : ⊥ = omega arith in absurd none
+
 -- The first of the corners from a place on is the one at that place
 pub corners-from : (numbers : List ℕ) (i : ℕ) → i < length numbers / 2
     → drop i (cornersOf numbers) ≡ cornerAt numbers i ∷ drop (suc i) (cornersOf numbers)

@@ -8,15 +8,15 @@ use lib.ListN.{take, drop}
 use lib.Seq.{take-at}
 use Rattle.replies.specs.Replies.{Said, accepted, run, Outcome, outcome}
 use Rattle.code.specs.Code.{codeOf}
-use Rattle.code.specs.Writing.{code-twenty}
-use Rattle.boundary.specs.Corners.{cornersOf}
+use Rattle.code.specs.WritingLaws.{code-twenty}
+use Rattle.corners.specs.Corners.{cornersOf}
 use Rattle.boundary.specs.Changes.{SameGround}
 use Rattle.unit.specs.declared.Kind.{Kind}
-use Rattle.unit.specs.declared.Choice.{Choice}
+use Rattle.chosen.specs.declared.Choice.{Choice}
 use Rattle.unit.specs.declared.Coded.{Coded}
 use Rattle.unit.specs.declared.Coded.the-variants as coded
 use Rattle.unit.specs.Extents.{extremesOf}
-use Rattle.unit.specs.Chosen.{choose}
+use Rattle.chosen.specs.Chosen.{choose}
 use Rattle.unit.specs.Unit.{fieldsOf, codeAt, cornerChecks, coding}
 use Rattle.unit.specs.Frame.{says, leaves}
 use Rattle.unit.specs.SameGround.{Counted, number-same, code-same}

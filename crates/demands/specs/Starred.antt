@@ -9,18 +9,22 @@ use lib.ListN.{replicate}
 use Rattle.replies.specs.Replies.{Said}
 use Rattle.facts.specs.Texts.{bytes}
 use Rattle.ground.specs.Levels.{sizeOf}
-use Rattle.ground.specs.Cells.{afresh, lowSide, highSide, sidesOf, centreOf, locationCell}
+use Rattle.ground.specs.Cells.{afresh, lowSide, highSide, sidesOf, locationCell}
+use Rattle.ground.specs.Rectangles.{centreOf}
 use Rattle.letters.specs.Letters.{letters, spelledIn}
-use Rattle.boundary.specs.Boundary.{edgesOf, left, leftOrOn, misses, crossesEast, inside}
-use Rattle.code.specs.Location.{bitsOf, angleIn, paired, latters, locationOf}
-use Rattle.code.specs.Code.{valuesOf, codeOf, rectangleOf, fieldsFrom, letterChecks, Told, reading}
+use Rattle.boundary.specs.Boundary.{edgesOf, inside}
+use Rattle.side.specs.Side.{left, leftOrOn}
+use Rattle.edge.specs.Edge.{misses, crossesEast}
+use Rattle.location.specs.Location.{bitsOf, angleIn, paired, latters, locationOf}
+use Rattle.spelling.specs.Spelling.{spelledBoth, textChecks, numbersIn}
+use Rattle.code.specs.Code.{restOf, codeOf, rectangleOf, fieldsIn, locationChecks, spanChecks, Told, readingNumbers, reading}
 use Rattle.unit.specs.declared.Kind.{Kind}
 use Rattle.unit.specs.declared.Kind.the-variants.{Building, Other}
-use Rattle.unit.specs.declared.Choice.{Choice}
-use Rattle.unit.specs.declared.Choice.the-variants.{At, Nowhere}
-use Rattle.boundary.specs.Corners.{cornersOf}
+use Rattle.chosen.specs.declared.Choice.{Choice}
+use Rattle.chosen.specs.declared.Choice.the-variants.{At, Nowhere}
+use Rattle.corners.specs.Corners.{cornersOf}
 use Rattle.unit.specs.Extents.{extremesOf}
-use Rattle.unit.specs.Chosen.{choose}
+use Rattle.chosen.specs.Chosen.{choose}
 use Rattle.unit.specs.Unit.{scaleOf, fieldsOf, cornerChecks, coding}
 
 -- What a case tries, and what comes out
@@ -137,11 +141,16 @@ unfolding sizeOf
     paired
     latters
     locationOf
-    valuesOf
+    restOf
+    spelledBoth
     codeOf
     rectangleOf
-    fieldsFrom
-    letterChecks
+    fieldsIn
+    textChecks
+    numbersIn
+    locationChecks
+    spanChecks
+    readingNumbers
     reading
     cornersOf
     extremesOf

@@ -1,7 +1,7 @@
 // The demands of the mission as statements, and document 01's starred cases. Definitions and laws are
 // in specs/: demand 3 between the two roads in Ground.antt, the starred cases in Starred.antt.
 ghost use mathlib.Core.Path.{_≡_};
-ghost use Rattle.boundary.specs.Corners.{cornersOf};
+ghost use Rattle.corners.specs.Corners.{cornersOf};
 ghost use Rattle.boundary.specs.Changes.{SameGround};
 ghost use Rattle.unit.specs.Unit.{coding};
 ghost use Rattle.unit.specs.Frame.{leaves};

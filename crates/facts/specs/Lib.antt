@@ -3,3 +3,4 @@ pub mod Numbers
 pub mod Lists
 pub mod Places
 pub mod Texts
+pub mod Once

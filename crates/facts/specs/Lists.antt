@@ -36,6 +36,12 @@ pub each-of : {A B : Type 0} (P : B → Type 0) (f : A → B) (xs : List A) → 
 each-of P f [] t = tt
 each-of P f (x ∷ xs) t = (t .0, each-of P f xs (t .1))
 
+-- What each element of a list is, the one at a place is
+pub each-at : {A : Type 0} (P : A → Type 0) (xs : List A) → Each P xs → (i : ℕ) → i < length xs → (d : A) → P (getD xs i d)
+each-at P [] t i h d = let none : ⊥ = omega arith in absurd none
+each-at P (x ∷ xs) t zero h d = t .0
+each-at P (x ∷ xs) t (suc i) h d = each-at P xs (t .1) i (omega arith) d
+
 -- A number of a list
 abbrev pub In : ℕ → List ℕ → Type 0
 In a [] = ⊥

@@ -1,11 +1,11 @@
 -- Numbers compared, and products of differences: what `omega` is handed where it would have to choose or to multiply. Assumes nothing.
-use Prim.Native.Nat.{ℕ, suc, _+_, _*_, _-_, _≤_, _<_}
+use Prim.Native.Nat.{ℕ, suc, _+_, _*_, _-_, _≤_, _<_, max}
 use native.Mathlib.Omega.{arith}
 use mathlib.Core.Path.{_≡_, refl, subst}
 use mathlib.Core.Logic.{_⊎_, inl, inr}
-use mathlib.Core.Bool.{Bool, true, false}
-use lib.Dec.{leb}
-use borrow.Author.Tests.{leb-true, leb-false}
+use mathlib.Core.Bool.{Bool, true, false, _||_}
+use lib.Dec.{leb, ltb}
+use borrow.Author.Tests.{leb-true, leb-false, ltb-true, ltb-false, lt-ltb, le-ltb}
 
 -- One of two numbers is at most the other
 pub either-way : (a b : ℕ) → (a ≤ b) ⊎ (b < a)
@@ -37,6 +37,15 @@ compared a b = at (either-way a b) (either-way b a)
     at (inl h) (inl k) = same (omega arith)
     at (inl h) (inr k) = less k
     at (inr h) k = more h
+
+-- The greater of two is above an end where one of them is
+pub max-above : (end a b : ℕ) → ltb end (max a b) ≡ (ltb end a || ltb end b)
+max-above end a b = at (ltb end a) (ltb end b) refl refl
+  where
+    at : (s t : Bool) → ltb end a ≡ s → ltb end b ≡ t → ltb end (max a b) ≡ (s || t)
+    at true t h k = lt-ltb end (max a b) (omega (arith, ltb-true end a h))
+    at false true h k = lt-ltb end (max a b) (omega (arith, ltb-true end b k))
+    at false false h k = le-ltb end (max a b) (omega (arith, ltb-false end a h, ltb-false end b k))
 
 -- A difference and what it was taken from
 rest-of : {a b : ℕ} → a ≤ b → a + (b - a) ≡ b

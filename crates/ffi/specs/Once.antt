@@ -1,8 +1,9 @@
 -- No second reply satisfies the promise of coding, writing or reading: each reply is found back from what it says. Assumes nothing.
 use Prim.Native.Nat.{ℕ}
-use mathlib.Core.Path.{_≡_, ap, _∙_, sym}
+use mathlib.Core.Path.{_≡_, refl, ap}
 use mathlib.Core.List.{List}
 use Rattle.replies.specs.Replies.{Said, Outcome}
+use Rattle.facts.specs.Once.{once, said-once}
 use Rattle.ground.specs.declared.Rectangle as ground
 use Rattle.code.specs.declared.Fields as code
 use Rattle.code.specs.Code.{Told}
@@ -35,10 +36,11 @@ readingBy t = record { reply = replyBy (t .said); fields = fieldsBy (t .fields);
 
 -- Two replies and rooms that meet the promise of coding or writing are the same
 pub leaves-once : (o : Outcome) (r s : Reply) (room other : List ℕ) → leaves r room ≡ o → leaves s other ≡ o → (r ≡ s) × (room ≡ other)
-leaves-once o r s room other e k =
-    let both : leaves r room ≡ leaves s other = e ∙ sym k in
-    (ap (λ (p : Outcome). replyBy (p .said)) both, ap (λ (p : Outcome). p .room) both)
+leaves-once o r s room other e k = (
+  said-once said replyBy (λ a. refl) r s (ap (λ (p : Outcome). p .said) e) (ap (λ (p : Outcome). p .said) k),
+  once (ap (λ (p : Outcome). p .room) e) (ap (λ (p : Outcome). p .room) k),
+)
 
 -- Two replies that meet the promise of reading are the same
 pub tells-once : (t : Told) (r s : Reading) → tells r ≡ t → tells s ≡ t → r ≡ s
-tells-once t r s e k = ap readingBy (e ∙ sym k)
+tells-once t r s = said-once tells readingBy (λ a. refl) r s

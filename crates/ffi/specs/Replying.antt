@@ -10,10 +10,6 @@ use Rattle.code.specs.declared.Written.the-variants as written
 use Rattle.code.specs.declared.Reading as of-reading
 use Rattle.code.specs.declared.Reading.the-variants as reads
 use Rattle.code.specs.Code as of-code
-use Rattle.unit.specs.declared.Kind as unit
-use Rattle.unit.specs.declared.Coded.{Coded}
-use Rattle.unit.specs.Frame as of-unit
-use Rattle.unit.specs.Unit.{kindOf, coding}
 use Rattle.ffi.specs.declared.Reply.{Reply}
 use Rattle.ffi.specs.declared.Fields.{Fields}
 use Rattle.ffi.specs.declared.Reading.{Reading}
@@ -28,12 +24,6 @@ leaving s room = record { said = s; room = room }
 
 abbrev telling : Said → code.Fields → ground.Rectangle → of-code.Told
 telling s f r = record { said = s; fields = f; rectangle = r }
-
--- What a road leaves, with its answer and its kind in numbers
-pub road-leaves : (r : Reply) (a : Coded) (letter : ℕ) (k : unit.Kind) (number : ℕ) (numbers start room : List ℕ) → said r ≡ of-unit.says a
-    → k ≡ kindOf letter → of-unit.leaves a room ≡ coding start numbers k number → leaves r room ≡ coding start numbers (kindOf letter) number
-road-leaves r a letter k number numbers start room e h p =
-    ap (λ (s : Said). leaving s room) e ∙ p ∙ ap (λ (j : unit.Kind). coding start numbers j number) h
 
 -- What writing leaves: the place is always 0
 pub write-leaves : (r : Reply) (w : Written) (f : Fields) (g : code.Fields) (start room : List ℕ) → r .number ≡ of-code.says w .number

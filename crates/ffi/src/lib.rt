@@ -176,7 +176,7 @@ fn told(answer: code::Reading) -> Reading
 pub extern "C" fn linenspruce_read(text: &[u8]) -> Reading
     ensures { λ r. ⌜ tells r ≡ reading (now (text .entry)) ⌝ }
 {
-    told(code::read(text))
+    told(reader::read(text))
 }
 
 // The fields of a code from numbers.
@@ -202,7 +202,7 @@ fn fields_from(f: Fields) -> code::Fields
 pub extern "C" fn linenspruce_write(room: &mut [u8], fields: Fields) -> Reply
     ensures { λ r. ⌜ leaves r (now (room .exit)) ≡ writing (now (room .entry)) (fieldsOf fields) ⌝ }
 {
-    let answer = code::write(room, fields_from(fields));
+    let answer = writer::write(room, fields_from(fields));
     Reply {
         number: code::written_number(answer),
         place: 0,

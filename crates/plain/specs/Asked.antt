@@ -4,11 +4,6 @@ use mathlib.Core.Path.{_≡_}
 use Rattle.ground.specs.Levels.{lonEnd}
 use Rattle.ground.specs.Cells.{lowSide, highSide}
 
--- A level from 9 to 27
-pub record Level (level : ℕ) : Type 0 where
-  pub coarsest : 9 ≤ level
-  pub finest : level ≤ 27
-
 -- The west side of a level's cells, which end within the range
 pub record West (level west : ℕ) : Type 0 where
   pub is : lowSide level west ≡ west

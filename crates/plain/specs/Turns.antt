@@ -6,15 +6,15 @@ use mathlib.Core.Path.{_≡_, refl, ap, subst, sym, _∙_}
 use mathlib.Core.Bool.{Bool, true, false}
 use mathlib.Core.List.{[], _∷_}
 use borrow.Author.Tests.{lt-ltb, le-ltb}
+use Rattle.ground.specs.Levels.{coarsestLevel, finestLevel, IsLevel, smallestSize}
 use Rattle.ground.specs.Cells.{lowSide, highSide}
-use Rattle.ground.specs.CellLaws.{sides-32}
-use Rattle.ground.specs.Sides.{low-low, below-high, high-low}
+use Rattle.ground.specs.CellsLaws.{sides-32}
+use Rattle.ground.specs.SidesLaws.{low-low, below-high, high-low}
 use Rattle.ground.specs.declared.Cell.{Cell}
-use Rattle.unit.specs.declared.Choice.{Choice}
-use Rattle.unit.specs.declared.Choice.the-variants.{At, Nowhere}
-use Rattle.unit.specs.Chosen.{sidesFrom, sidesOver, orElse, firstAmong}
+use Rattle.chosen.specs.declared.Choice.{Choice}
+use Rattle.chosen.specs.declared.Choice.the-variants.{At, Nowhere}
+use Rattle.chosen.specs.Chosen.{sidesFrom, sidesOver, orElse, firstAmong}
 use Rattle.facts.specs.Lists.{countUp}
-use Rattle.plain.specs.Asked.{Level}
 
 -- Below the end a side is followed by those from the next on
 sides-more : (n level a end : ℕ) → a < end → sidesFrom (suc n) level a end ≡ a ∷ sidesFrom n level (highSide level a) end
@@ -30,19 +30,19 @@ sides-none n level a end most =
 pub record SidesLeft (try : ℕ → Choice) (level end : ℕ) (whole : Choice) (a : ℕ) : Type 0 where
   pub more : ℕ
   pub same : whole ≡ firstAmong try (sidesFrom (suc more) level a end)
-  pub enough : end - highSide level a ≤ 32 * more
+  pub enough : end - highSide level a ≤ smallestSize * more
   pub is : lowSide level a ≡ a
 
-module _ {try : ℕ → Choice} {level : ℕ} (l : Level level) where
+module _ {try : ℕ → Choice} {level : ℕ} (l : IsLevel level) where
   -- At first all sides over the extent are
   pub sides-begin : (from to : ℕ) → SidesLeft try level to (firstAmong try (sidesOver level from to)) (lowSide level from)
   sides-begin from to =
-      let count : (to - from) / 32 + 2 ≡ suc ((to - from) / 32 + 1) = omega arith in
+      let count : (to - from) / smallestSize + 2 ≡ suc ((to - from) / smallestSize + 1) = omega arith in
       record {
-        more = (to - from) / 32 + 1;
+        more = (to - from) / smallestSize + 1;
         same = ap (λ (n : ℕ). firstAmong try (sidesFrom n level (lowSide level from) to)) count;
-        enough = omega (arith, below-high level (l .coarsest) (l .finest) from);
-        is = low-low level (l .coarsest) (l .finest) from;
+        enough = omega (arith, below-high level l from);
+        is = low-low level l from;
       }
 
   module _ {end a : ℕ} {whole : Choice} (s : SidesLeft try level end whole a) where
@@ -63,19 +63,19 @@ module _ {try : ℕ → Choice} {level : ℕ} (l : Level level) where
         (s .enough)
       where
         next : lowSide level (highSide level a) ≡ highSide level a
-        next = high-low level (l .coarsest) (l .finest) a (s .is)
+        next = high-low level l a (s .is)
 
-        at : (n : ℕ) → whole ≡ firstAmong try (sidesFrom n level (highSide level a) end) → end - highSide level a ≤ 32 * n
+        at : (n : ℕ) → whole ≡ firstAmong try (sidesFrom n level (highSide level a) end) → end - highSide level a ≤ smallestSize * n
             → SidesLeft try level end whole (highSide level a)
         at zero k enough =
             record {
               more = 0;
               same = k ∙ sym (ap (firstAmong try) (sides-none 0 level (highSide level a) end (omega arith)));
-              enough = omega (arith, sides-32 level (l .coarsest) next (l .finest) .room);
+              enough = omega (arith, sides-32 level l next .apart);
               is = next;
             }
         at (suc n) k enough =
-            record { more = n; same = k; enough = omega (arith, sides-32 level (l .coarsest) next (l .finest) .room); is = next }
+            record { more = n; same = k; enough = omega (arith, sides-32 level l next .apart); is = next }
 
     -- At the end nothing was found
     pub sides-end : end ≤ a → whole ≡ Nowhere
@@ -83,39 +83,43 @@ module _ {try : ℕ → Choice} {level : ℕ} (l : Level level) where
 
 -- Levels from one on are still to be tried, up to 27
 pub record LevelsLeft (try : ℕ → Choice) (whole : Choice) (level : ℕ) : Type 0 where
-  pub least : 9 ≤ level
-  pub most : level ≤ 28
-  pub same : whole ≡ firstAmong try (countUp (28 - level) level)
+  pub least : coarsestLevel ≤ level
+  pub most : level ≤ finestLevel + 1
+  pub same : whole ≡ firstAmong try (countUp (finestLevel + 1 - level) level)
 
 -- At first all levels are
-pub levels-begin : (try : ℕ → Choice) → LevelsLeft try (firstAmong try (countUp 19 9)) 9
+pub levels-begin : (try : ℕ → Choice) → LevelsLeft try (firstAmong try (countUp 19 coarsestLevel)) coarsestLevel
 levels-begin try = record { least = omega arith; most = omega arith; same = refl }
 
 module _ {try : ℕ → Choice} {whole : Choice} {level : ℕ} (s : LevelsLeft try whole level) where
   -- The first of them is tried
-  level-tries : level < 28 → whole ≡ orElse (try level) (λ _. firstAmong try (countUp (28 - suc level) (suc level)))
+  level-tries : level ≤ finestLevel → whole ≡ orElse (try level) (λ _. firstAmong try (countUp (finestLevel - level) (suc level)))
   level-tries less =
-      let count : 28 - level ≡ suc (28 - suc level) = omega arith in
+      let count : finestLevel + 1 - level ≡ suc (finestLevel - level) = omega arith in
       s .same ∙ ap (λ (n : ℕ). firstAmong try (countUp n level)) count
 
   -- Where it gives a cell, so does the whole
-  pub levels-found : {c : Cell} → level < 28 → try level ≡ At c → whole ≡ At c
+  pub levels-found : {c : Cell} → level ≤ finestLevel → try level ≡ At c → whole ≡ At c
   levels-found less e =
-      level-tries less ∙ ap (λ (t : Choice). orElse t (λ _. firstAmong try (countUp (28 - suc level) (suc level)))) e
+      level-tries less ∙ ap (λ (t : Choice). orElse t (λ _. firstAmong try (countUp (finestLevel - level) (suc level)))) e
 
   -- Else the next are left
-  pub levels-again : level < 28 → try level ≡ Nowhere → LevelsLeft try whole (level + 1)
+  pub levels-again : level ≤ finestLevel → try level ≡ Nowhere → LevelsLeft try whole (level + 1)
   levels-again less e =
       let next : suc level ≡ level + 1 = omega arith in
+      let left : finestLevel - level ≡ finestLevel + 1 - suc level = omega arith in
       subst (LevelsLeft try whole) next
       (record {
         least = omega (arith, s .least);
         most = omega arith;
-        same = level-tries less ∙ ap (λ (t : Choice). orElse t (λ _. firstAmong try (countUp (28 - suc level) (suc level)))) e;
+        same =
+            level-tries less
+            ∙ ap (λ (t : Choice). orElse t (λ _. firstAmong try (countUp (finestLevel - level) (suc level)))) e
+            ∙ ap (λ (n : ℕ). firstAmong try (countUp n (suc level))) left;
       })
 
   -- At the end nothing was found
-  pub levels-end : 28 ≤ level → whole ≡ Nowhere
+  pub levels-end : finestLevel < level → whole ≡ Nowhere
   levels-end past =
-      let none : 28 - level ≡ 0 = omega arith in
+      let none : finestLevel + 1 - level ≡ 0 = omega arith in
       s .same ∙ ap (λ (n : ℕ). firstAmong try (countUp n level)) none

@@ -2,13 +2,17 @@
 use mathlib.Core.Path.{_≡_, refl}
 use Rattle.facts.specs.Texts.{bytes}
 use Rattle.ground.specs.Levels.{sizeOf}
-use Rattle.ground.specs.Cells.{afresh, lowSide, highSide, sidesOf, centreOf, locationCell}
-use Rattle.boundary.specs.Boundary.{edgesOf, left, leftOrOn, misses, crossesEast, inside}
-use Rattle.code.specs.Location.{bitsOf, paired, locationOf}
-use Rattle.code.specs.Code.{valuesOf, codeOf}
-use Rattle.boundary.specs.Corners.{cornersOf}
+use Rattle.ground.specs.Cells.{afresh, lowSide, highSide, sidesOf, locationCell}
+use Rattle.ground.specs.Rectangles.{centreOf}
+use Rattle.boundary.specs.Boundary.{edgesOf, inside}
+use Rattle.side.specs.Side.{left, leftOrOn}
+use Rattle.edge.specs.Edge.{misses, crossesEast}
+use Rattle.location.specs.Location.{bitsOf, paired, locationOf}
+use Rattle.spelling.specs.Spelling.{spelledBoth}
+use Rattle.code.specs.Code.{restOf, codeOf}
+use Rattle.corners.specs.Corners.{cornersOf}
 use Rattle.unit.specs.Extents.{extremesOf}
-use Rattle.unit.specs.Chosen.{choose}
+use Rattle.chosen.specs.Chosen.{choose}
 use Rattle.unit.specs.Unit.{scaleOf, fieldsOf, cornerChecks, coding}
 use Rattle.unit.specs.Unit.{kindOf}
 use Rattle.lines.specs.Lines.{cut, valueAfter, isNumber, form, linesOf, spelling, replyLine, lineSaid, replies, outputOf}
@@ -32,7 +36,8 @@ unfolding sizeOf
     bitsOf
     paired
     locationOf
-    valuesOf
+    restOf
+    spelledBoth
     codeOf
     cornersOf
     extremesOf

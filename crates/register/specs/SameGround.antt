@@ -7,7 +7,7 @@ use mathlib.Core.List.{List}
 use lib.ListN.{replicate}
 use lib.Dec.{eqb}
 use Rattle.replies.specs.Replies.{Outcome}
-use Rattle.boundary.specs.Corners.{cornersOf}
+use Rattle.corners.specs.Corners.{cornersOf}
 use Rattle.boundary.specs.Changes.{SameGround}
 use Rattle.unit.specs.Unit.{kindOf, coding}
 use Rattle.unit.specs.SameGround.{Counted, coding-same}

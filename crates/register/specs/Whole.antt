@@ -8,7 +8,7 @@ use lib.ListN.{length, take, replicate}
 use lib.Dec.{eqb}
 use Rattle.replies.specs.Replies.{Outcome}
 use Rattle.unit.specs.Unit.{kindOf, coding}
-use Rattle.unit.specs.Framing.{coding-fits}
+use Rattle.unit.specs.FrameLaws.{coding-fits}
 use Rattle.room.specs.Room.{Put}
 use Rattle.room.specs.RoomLaws.{put-within, put-whole}
 use Rattle.lines.specs.Lines.{coded, refused, longest, outputOf}

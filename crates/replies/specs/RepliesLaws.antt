@@ -1,15 +1,13 @@
 -- The laws of checks that run in order: tables one after the other, and what a table that says number 0 leaves. Assumes nothing.
-use Prim.Native.Nat.{ℕ, suc, _<_}
+use Prim.Native.Nat.{_<_}
 use native.Mathlib.Omega.{arith}
-use mathlib.Core.Path.{_≡_, refl, sym, ap}
+use mathlib.Core.Path.{_≡_, refl, sym, ap, _∙_}
 use mathlib.Core.Bool.{Bool, true, false, cond, _&&_}
 use mathlib.Core.List.{List, [], _∷_, _++_}
 use lib.Dec.{T, ltb, eqb, ltb→lt}
-use lib.ListN.{length, getD, drop}
-use lib.Seq.{drop-cons}
-use borrow.Author.Tests.{eq-eqb, ne-eqb}
+use borrow.Author.Tests.{eqb-true, eqb-false, eq-eqb, ne-eqb}
 use Rattle.facts.specs.Tests.{both-hold}
-use Rattle.replies.specs.Replies.{Said, accepted, refused, Check, check, run}
+use Rattle.replies.specs.Replies.{Said, refused, Check, run}
 
 -- No row of a table has number 0, which is acceptance's
 abbrev pub numbered : List Check → Bool
@@ -54,15 +52,24 @@ run-first cs ds t h = rw (run-append cs ds t, ne-eqb (run cs .number) 0 h)
 pub run-second : (cs ds : List Check) → T (numbered cs) → run cs .number ≡ 0 → run (cs ++ ds) ≡ run ds
 run-second cs ds t h = rw (run-append cs ds t, eq-eqb (run cs .number) 0 h)
 
--- The row of a table at a place
-abbrev pub row : List Check → ℕ → Check
-row cs k = getD cs k (check 0 false)
+-- Two tables, one after the other, as a function runs them
+module _ (cs ds : List Check) (some : T (numbered cs)) where
+  -- What the first says, where it refuses, both say
+  pub stops : {s : Said} → s ≡ run cs → (s .number ≡ 0 → ⊥) → s ≡ run (cs ++ ds)
+  stops e refuses = e ∙ sym (run-first cs ds some (λ z. refuses (ap (λ (t : Said). t .number) e ∙ z)))
 
--- A row that does not refuse is passed over
-pub skip : (cs : List Check) (k : ℕ) → k < length cs → row cs k .refuses ≡ false → run (drop k cs) ≡ run (drop (suc k) cs)
-skip cs k h e = rw (drop-cons cs k (check 0 false) h, e)
+  -- and where it does not, what the second says
+  pub goes-on : {s t : Said} → s ≡ run cs → s .number ≡ 0 → t ≡ run ds → t ≡ run (cs ++ ds)
+  goes-on e z k = k ∙ sym (run-second cs ds some (sym (ap (λ (t : Said). t .number) e) ∙ z))
 
--- A row that refuses is what is said
-pub stop : (cs : List Check) (k : ℕ) → k < length cs → row cs k .refuses ≡ true
-    → run (drop k cs) ≡ refused (row cs k .number) (row cs k .place)
-stop cs k h e = rw (drop-cons cs k (check 0 false) h, e)
+  -- Where they say number 0, each does
+  pub both-pass : run (cs ++ ds) .number ≡ 0 → (run cs .number ≡ 0) × (run ds .number ≡ 0)
+  both-pass e = at (eqb (run cs .number) 0) refl
+    where
+      at : (b : Bool) → eqb (run cs .number) 0 ≡ b → (run cs .number ≡ 0) × (run ds .number ≡ 0)
+      at true k =
+          let first = eqb-true (run cs .number) 0 k in
+          (first, sym (ap (λ (s : Said). s .number) (run-second cs ds some first)) ∙ e)
+      at false k =
+          let refuses = eqb-false (run cs .number) 0 k in
+          absurd (refuses (sym (ap (λ (s : Said). s .number) (run-first cs ds some refuses)) ∙ e))

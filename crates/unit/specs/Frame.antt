@@ -1,20 +1,23 @@
 -- Coding's frame (document 01, "Replies"): what both roads share around their search. The answers of coding, the checks before a cell is
 -- looked for, and the end of coding around a cell that is handed in. Assumes nothing.
-use Prim.Native.Nat.{ℕ}
+use Prim.Native.Nat.{ℕ, _/_, _≤_}
 use mathlib.Core.Bool.{cond}
-use mathlib.Core.List.{List}
+use mathlib.Core.List.{List, _++_}
 use lib.Dec.{eqb}
-use lib.ListN.{take}
+use lib.ListN.{length}
 use Rattle.replies.specs.Replies.{Said, refused, accepted, Check, Outcome}
 use Rattle.ground.specs.declared.Rectangle.{Rectangle}
-use Rattle.ground.specs.CellTest.{isCell}
+use Rattle.ground.specs.Cells.{isCell}
 use Rattle.code.specs.Code.{writing}
 use Rattle.unit.specs.declared.Kind.{Kind}
-use Rattle.unit.specs.declared.Choice.{Choice}
-use Rattle.unit.specs.declared.Choice.the-variants.{At, Nowhere}
+use Rattle.chosen.specs.declared.Choice.{Choice}
+use Rattle.chosen.specs.declared.Choice.the-variants.{At, Nowhere}
 use Rattle.unit.specs.declared.Coded.{Coded}
 use Rattle.unit.specs.declared.Coded.the-variants as coded
-use Rattle.unit.specs.Unit.{fieldsOf, codeChecks}
+use Rattle.corners.specs.Corners.{cornersOf}
+use Rattle.boundary.specs.Listed.{boundaryOf}
+use Rattle.chosen.specs.Chosen.{Over}
+use Rattle.unit.specs.Unit.{fieldsOf, roomCheck, shapeChecks, groundChecks, numberCheck}
 
 -- The number and the place of each answer of coding
 abbrev pub says : Coded → Said
@@ -34,7 +37,13 @@ leaves answer room = record { said = says answer; room = room }
 
 -- Checks 1 to 6, before a cell is looked for
 unfoldable pub firstChecks : ℕ → List ℕ → Kind → ℕ → List Check
-firstChecks room numbers kind number = take 6 (codeChecks room numbers kind number)
+firstChecks room numbers kind number =
+    roomCheck room ++ shapeChecks numbers ++ groundChecks (cornersOf numbers) ++ numberCheck kind number
+
+-- What a road's search takes for granted: at most 1,024 corners, and what a search over extents and edges does
+pub record Searched (numbers : List ℕ) (r : Rectangle) : Type 0 where
+  pub most : length numbers / 2 ≤ 1024
+  pub over : Over r (boundaryOf numbers)
 
 -- What writing from a cell's fields comes to: acceptance, or 8, since a chosen cell's fields can fail by a span alone
 abbrev pub ending : Outcome → Outcome

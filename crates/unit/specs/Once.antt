@@ -3,7 +3,7 @@ use Prim.Native.Nat.{ℕ}
 use mathlib.Core.Path.{_≡_, refl, ap, _∙_, sym}
 use mathlib.Core.List.{List, [], _∷_}
 use Rattle.replies.specs.Replies.{Said, Outcome}
-use Rattle.code.specs.Once.{sought}
+use Rattle.facts.specs.Once.{sought}
 use Rattle.unit.specs.declared.Coded.{Coded}
 use Rattle.unit.specs.declared.Coded.the-variants as coded
 use Rattle.unit.specs.Frame.{says, leaves}

@@ -1,33 +1,34 @@
 -- Coding keeps to the ground (the mission's demand 3): extents, chosen cell, every refusal number from 4 on and the code are the same for
 -- all lists of corners of one ground. Assumes nothing.
-use Prim.Native.Nat.{ℕ, zero, suc, _+_, _%_, _/_, _≤_, _<_, min, max}
+use Prim.Native.Nat.{ℕ, suc, _%_, _/_, min, max}
 use native.Mathlib.Omega.{arith}
 use mathlib.Core.Path.{_≡_, refl, ap, ap₂, _∙_, sym, subst}
 use mathlib.Core.Bool.{Bool, true, false, cond, _||_, or-assoc, or-false, or-true}
 use mathlib.Core.List.{List, [], _∷_, _++_, map, reverse, reverse-cons}
 use lib.Dec.{T, eqb, ltb, leb·suc-suc}
 use lib.ListN.{length, drop}
-use borrow.Author.Tests.{ltb-true, ltb-false, lt-ltb, le-ltb}
+use borrow.Author.Tests.{lt-ltb}
 use Rattle.replies.specs.Replies.{Check, check, check-at, run}
 use Rattle.facts.specs.Places.{firstPlace}
 use Rattle.ground.specs.declared.Point.{Point}
 use Rattle.ground.specs.declared.Rectangle.{Rectangle}
 use Rattle.ground.specs.declared.Cell.{Cell}
-use Rattle.ground.specs.Levels.{lat, lon, latEnd, lonEnd}
-use Rattle.ground.specs.Cells.{IsCell}
-use Rattle.boundary.specs.Boundary.{inside}
-use Rattle.boundary.specs.Walk.{next}
-use Rattle.boundary.specs.Insert.{Between, OnEdge}
-use Rattle.boundary.specs.Changes.{SameGround, Kept, kept-ground, inside-same}
+use Rattle.ground.specs.Levels.{lat, lon, latEnd, lonEnd, IsLevel}
+use Rattle.ground.specs.CellsLaws.{cell-wide}
+use Rattle.boundary.specs.Boundary.{edgesOf, inside}
+use Rattle.boundary.specs.Sums.{next}
+use Rattle.edge.specs.Edge.{Between, OnEdge}
+use Rattle.boundary.specs.Changes.{SameGround}
+use Rattle.boundary.specs.ChangesLaws.{Unchanged, same-ground, inside-same}
 use Rattle.code.specs.Code.{outside}
 use Rattle.unit.specs.declared.Kind.{Kind}
-use Rattle.unit.specs.declared.Choice.{Choice}
-use Rattle.unit.specs.declared.Choice.the-variants.{At, Nowhere}
-use Rattle.boundary.specs.Corners.{cornersOf}
-use Rattle.unit.specs.Extents.{leastFrom, greatestFrom, least, greatest, extremesOf, latExtent, lonExtent}
-use Rattle.unit.specs.Chosen.{Chosen, sidesOver, orElse, firstAmong, tried, choose}
-use Rattle.facts.specs.Lists.{countUp}
-use Rattle.unit.specs.Unit.{aboveRange, badNumber, noCell, spanAbove, codeAt, cornerChecks, codeChecks, coding}
+use Rattle.chosen.specs.declared.Choice.{Choice}
+use Rattle.corners.specs.Corners.{cornersOf}
+use Rattle.unit.specs.Extents.{leastFrom, greatestFrom, least, greatest, extremesOf}
+use Rattle.chosen.specs.Chosen.{Chosen, choose}
+use Rattle.chosen.specs.ChosenLaws.{choose-same}
+use Rattle.facts.specs.Numbers.{max-above}
+use Rattle.unit.specs.Unit.{aboveRange, aboveDegree, badNumber, noCell, spanAbove, codeAt, chosenCell, cornerChecks, codeChecks, coding}
 
 -- The least or the greatest of a number and the angles of some corners, by an operation and in a direction
 abbrev over : (ℕ → ℕ → ℕ) → (Point → ℕ) → ℕ → List Point → ℕ
@@ -84,9 +85,9 @@ module _ (op : ℕ → ℕ → ℕ) (laws : Extreme op) (dir : Point → ℕ) wh
   extreme-started c (d ∷ ds) =
       ap (λ (n : ℕ). over op dir n ds) (laws .comm (dir c) (dir d)) ∙ over-first (dir d) (dir c) ds ∙ sym (over-last (dir d) ds c)
 
-  -- Least and greatest angles are kept
-  extreme-kept : ((a p b : Point) → OnEdge a p b → Between (dir a) (dir p) (dir b)) → Kept (extreme op dir)
-  extreme-kept on-between = record { started = extreme-started; turned = turned; set = set }
+  -- Least and greatest angles are unchanged
+  extreme-unchanged : ((a p b : Point) → OnEdge a p b → Between (dir a) (dir p) (dir b)) → Unchanged (extreme op dir)
+  extreme-unchanged on-between = record { started = extreme-started; turned = turned; set = set }
     where
       turned : (cs : List Point) → extreme op dir cs ≡ extreme op dir (reverse cs)
       turned [] = refl
@@ -117,11 +118,11 @@ module _ (dir : Point → ℕ) where
   module _ (on-between : (a p b : Point) → OnEdge a p b → Between (dir a) (dir p) (dir b)) {cs ds : List Point} (g : SameGround cs ds) where
     least-same : least (map dir cs) ≡ least (map dir ds)
     least-same =
-        least-is cs ∙ kept-ground (extreme min dir) (extreme-kept min least-extreme dir on-between) g ∙ sym (least-is ds)
+        least-is cs ∙ same-ground (extreme min dir) (extreme-unchanged min least-extreme dir on-between) g ∙ sym (least-is ds)
 
     greatest-same : greatest (map dir cs) ≡ greatest (map dir ds)
     greatest-same =
-        greatest-is cs ∙ kept-ground (extreme max dir) (extreme-kept max greatest-extreme dir on-between) g ∙ sym (greatest-is ds)
+        greatest-is cs ∙ same-ground (extreme max dir) (extreme-unchanged max greatest-extreme dir on-between) g ∙ sym (greatest-is ds)
 
 -- Extents are the same for all of one ground
 pub extremes-same : {cs ds : List Point} → SameGround cs ds → extremesOf cs ≡ extremesOf ds
@@ -135,55 +136,27 @@ extremes-same g =
     let north = greatest-same (λ p. p .lat .0) on-lat g in
     λ i. record { west = lon (west i); east = lon (east i); south = lat (south i); north = lat (north i) }
 
--- Trying numbers in turn, where each try gives the same
-among-same : (n from : ℕ) {try other : ℕ → Choice} → ((x : ℕ) → from ≤ x → x < from + n → try x ≡ other x)
-    → firstAmong try (countUp n from) ≡ firstAmong other (countUp n from)
-among-same zero from same = refl
-among-same (suc n) from {try} {other} same =
-    ap₂ (λ (c d : Choice). orElse c (λ _. d)) (same from (omega arith) (omega arith))
-    (among-same n (suc from) (λ x h k. same x (omega arith) (omega arith)))
-
--- The cells of a level over a rectangle, in turn
-abbrev amongCells : Rectangle → (Cell → Choice) → ℕ → Choice
-amongCells r try level =
-    firstAmong
-    (λ west. firstAmong
-    (λ south. try (record { level = level; west = lon west; south = lat south }))
-    (sidesOver level (r .south .0) (r .north .0)))
-    (sidesOver level (r .west .0) (r .east .0))
+-- A cell of levels 9 to 27 is inside for all of one ground
+inside-cell : {cs ds : List Point} → SameGround cs ds → (c : Cell) → IsLevel (c .level) → inside (edgesOf cs) c ≡ inside (edgesOf ds) c
+inside-cell g c l = inside-same g (cell-wide c l)
 
 -- The chosen cell is the same for all of one ground
-pub choose-same : {cs ds : List Point} → SameGround cs ds → choose cs ≡ choose ds
-unfolding choose
-choose-same {cs} {ds} g =
-    among-same 19 9 (λ level low high. tries level low (omega arith))
-    ∙ ap (λ (r : Rectangle). firstAmong (amongCells r (tried ds)) (countUp 19 9)) (extremes-same g)
-  where
-    tries : (level : ℕ) → 9 ≤ level → level ≤ 27 → amongCells (extremesOf cs) (tried cs) level ≡ amongCells (extremesOf cs) (tried ds) level
-    tries level low high =
-        let r : Rectangle = extremesOf cs in
-        let cell : ℕ → ℕ → Cell = λ west south. record { level = level; west = lon west; south = lat south } in
-        let same : _≡_ {A = ℕ → ℕ → Choice} (λ west south. tried cs (cell west south)) (λ west south. tried ds (cell west south))
-        = λ i west south. cond (inside-same g (cell west south) low high i) (At (cell west south)) Nowhere in
-        ap
-        (λ (try : ℕ → ℕ → Choice). firstAmong (λ west. firstAmong (try west) (sidesOver level (r .south .0) (r .north .0))) (sidesOver level (r .west .0) (r .east .0)))
-        same
+pub chosen-cell-same : {cs ds : List Point} → SameGround cs ds → chosenCell cs ≡ chosenCell ds
+chosen-cell-same {cs} {ds} g =
+    choose-same (extremesOf cs) (edgesOf cs) (edgesOf ds) (inside-cell g) ∙ ap (λ (r : Rectangle). choose r (edgesOf ds)) (extremes-same g)
 
 -- and so is the cell that document 01 says is chosen
-pub chosen-same : {cs ds : List Point} {c : Cell} → SameGround cs ds → Chosen cs c → Chosen ds c
+pub chosen-same : {cs ds : List Point} {c : Cell} → SameGround cs ds → Chosen (edgesOf cs) c → Chosen (edgesOf ds) c
 chosen-same {cs} {ds} {c} g chosen = record {
   cell = chosen .cell;
-  within = subst T (same c (chosen .cell)) (chosen .within);
-  first = λ d cell t. chosen .first d cell (subst T (sym (same d cell)) t);
+  within = subst T (inside-cell g c (chosen .cell .level)) (chosen .within);
+  first = λ d cell t. chosen .first d cell (subst T (sym (inside-cell g d (cell .level))) t);
 }
-  where
-    same : (d : Cell) → IsCell d → inside cs d ≡ inside ds d
-    same d cell = inside-same g d (cell .coarsest) (cell .finest)
 
 -- The code is the same for all of one ground
 pub code-same : {cs ds : List Point} → SameGround cs ds → (number : ℕ)
-    → codeAt (extremesOf cs) number (choose cs) ≡ codeAt (extremesOf ds) number (choose ds)
-code-same g number = ap₂ (λ (r : Rectangle) (c : Choice). codeAt r number c) (extremes-same g) (choose-same g)
+    → codeAt (extremesOf cs) number (chosenCell cs) ≡ codeAt (extremesOf ds) number (chosenCell ds)
+code-same g number = ap₂ (λ (r : Rectangle) (c : Choice). codeAt r number c) (extremes-same g) (chosen-cell-same g)
 
 -- A test that some corner passes
 abbrev some : (Point → Bool) → List Point → Bool
@@ -199,15 +172,6 @@ first-some test (p ∷ ps) = at (test p) (first-some test ps)
         → ltb (cond i 0 (suc (firstPlace test ps))) (suc (length ps)) ≡ (i || some test ps)
     at true ih = lt-ltb 0 (suc (length ps)) (omega arith)
     at false ih = leb·suc-suc (suc (firstPlace test ps)) (length ps) ∙ ih
-
--- The greater of two is above an end where one of them is
-max-above : (end x y : ℕ) → ltb end (max x y) ≡ (ltb end x || ltb end y)
-max-above end x y = at (ltb end x) (ltb end y) refl refl
-  where
-    at : (i j : Bool) → ltb end x ≡ i → ltb end y ≡ j → ltb end (max x y) ≡ (i || j)
-    at true j h k = let above = ltb-true end x h in lt-ltb end (max x y) (omega arith)
-    at false true h k = let above = ltb-true end y k in lt-ltb end (max x y) (omega arith)
-    at false false h k = let a = ltb-false end x h in let b = ltb-false end y k in le-ltb end (max x y) (omega arith)
 
 -- The greatest angle is above an end where the angle of some corner is
 greatest-above : (dir : Point → ℕ) (end x : ℕ) (ps : List Point)
@@ -249,20 +213,20 @@ first-number false n place rows = refl
 pub number-same : {cs ds : List Point} → SameGround cs ds → (kind : Kind) (number : ℕ)
     → run (cornerChecks cs kind number) .number ≡ run (cornerChecks ds kind number) .number
 unfolding cornerChecks
-number-same {cs} {ds} g kind number = told cs ∙ ap₂ table (extremes-same g) (choose-same g) ∙ sym (told ds)
+number-same {cs} {ds} g kind number = told cs ∙ ap₂ table (extremes-same g) (chosen-cell-same g) ∙ sym (told ds)
   where
     rows : Rectangle → Choice → List Check
     rows r c =
-        check 5 (ltb 7372800 (latExtent r) || ltb 7372800 (lonExtent r))
+        check 5 (aboveDegree r)
         ∷ check 6 (badNumber kind number) ∷ check 7 (noCell c) ∷ check 8 (spanAbove r number c) ∷ []
 
     table : Rectangle → Choice → ℕ
     table r c = cond (ltb latEnd (r .north .0) || ltb lonEnd (r .east .0)) 4 (run (rows r c) .number)
 
-    told : (cs : List Point) → run (cornerChecks cs kind number) .number ≡ table (extremesOf cs) (choose cs)
+    told : (cs : List Point) → run (cornerChecks cs kind number) .number ≡ table (extremesOf cs) (chosenCell cs)
     told cs =
-        first-number (ltb (firstPlace aboveRange cs) (length cs)) 4 (firstPlace aboveRange cs) (rows (extremesOf cs) (choose cs))
-        ∙ ap (λ (b : Bool). cond b 4 (run (rows (extremesOf cs) (choose cs)) .number)) (above-is cs)
+        first-number (ltb (firstPlace aboveRange cs) (length cs)) 4 (firstPlace aboveRange cs) (rows (extremesOf cs) (chosenCell cs))
+        ∙ ap (λ (b : Bool). cond b 4 (run (rows (extremesOf cs) (chosenCell cs)) .number)) (above-is cs)
 
 -- Checks 1 to 3 pass
 pub record Counted (room numbers : List ℕ) : Type 0 where

@@ -3,7 +3,7 @@
 use Prim.Native.Nat.{ℕ, zero, suc, _+_, _-_, _*_, _/_, _%_}
 use Prim.Native.Char.{code}
 use mathlib.Core.Bool.{Bool, true, false, cond, not, _||_}
-use mathlib.Core.List.{List, [], _∷_}
+use mathlib.Core.List.{List, [], _∷_, _++_}
 use lib.Dec.{eqb, ltb}
 use lib.ListN.{length}
 use Rattle.replies.specs.Replies.{Check, check, check-at, run, Outcome, outcome}
@@ -11,26 +11,29 @@ use Rattle.facts.specs.Places.{firstPlace}
 use Rattle.ground.specs.declared.Point.{Point}
 use Rattle.ground.specs.declared.Rectangle.{Rectangle}
 use Rattle.ground.specs.declared.Cell.{Cell}
-use Rattle.ground.specs.Levels.{latEnd, lonEnd, distance, sizeOf}
+use Rattle.ground.specs.Levels.{degree, latEnd, lonEnd, distance, coarsestLevel, finestLevel, sizeOf}
 use Rattle.ground.specs.Cells.{locationCell, cornerOf}
 use Rattle.code.specs.declared.Fields.{Fields}
 use Rattle.code.specs.Code.{outside, codeOf}
 use Rattle.unit.specs.declared.Kind.{Kind}
 use Rattle.unit.specs.declared.Kind.the-variants.{Building, Other}
-use Rattle.unit.specs.declared.Choice.{Choice}
-use Rattle.unit.specs.declared.Choice.the-variants.{At, Nowhere}
-use Rattle.boundary.specs.Corners.{cornersOf}
+use Rattle.chosen.specs.declared.Choice.{Choice}
+use Rattle.chosen.specs.declared.Choice.the-variants.{At, Nowhere}
+use Rattle.corners.specs.Corners.{cornersOf}
+use Rattle.boundary.specs.Boundary.{edgesOf}
 use Rattle.unit.specs.Extents.{extremesOf, latExtent, lonExtent, spanOf}
-use Rattle.unit.specs.Chosen.{choose}
+use Rattle.chosen.specs.Chosen.{choose}
 
--- The finest of the level 9 + n and those below it whose nominal size times 32 is greater than a span
+-- The finest of so many levels after the coarsest whose nominal size times 32 is greater than a span, else the coarsest
 abbrev pub scaleFrom : ℕ → ℕ → ℕ
-scaleFrom span zero = 9
-scaleFrom span (suc n) = cond (ltb span (sizeOf (10 + n) * 32)) (10 + n) (scaleFrom span n)
+scaleFrom span zero = coarsestLevel
+scaleFrom span (suc n) =
+    let level : ℕ = coarsestLevel + suc n in
+    cond (ltb span (sizeOf level * 32)) level (scaleFrom span n)
 
 -- Scale: L is the finest level, at most 27, whose nominal size times 32 is greater than Span
 unfoldable pub scaleOf : ℕ → ℕ
-scaleOf span = scaleFrom span 18
+scaleOf span = scaleFrom span (finestLevel - coarsestLevel)
 
 -- A distance, divided by s and rounded up, plus 1
 abbrev pub spanCells : ℕ → ℕ → ℕ
@@ -51,18 +54,54 @@ fieldsOf r number c =
       number = number;
     }
 
--- A coordinate above its range
-abbrev pub aboveRange : Point → Bool
-aboveRange p = ltb latEnd (p .lat .0) || ltb lonEnd (p .lon .0)
+-- The code of a unit from its extremes, its number and its chosen cell
+abbrev pub codeAt : Rectangle → ℕ → Choice → List ℕ
+codeAt r number (At c) = codeOf (fieldsOf r number c)
+codeAt r number Nowhere = []
 
 -- The kind by the listing's letter: "`B` or `F` (building, other)"; any other letter is another kind too
 unfoldable pub kindOf : ℕ → Kind
 kindOf letter = cond (eqb letter (code "B")) Building Other
 
+-- The chosen cell of a unit's corners
+abbrev pub chosenCell : List Point → Choice
+chosenCell corners = choose (extremesOf corners) (edgesOf corners)
+
+-- Check 1: output shorter than 20
+abbrev pub roomCheck : ℕ → List Check
+roomCheck room = check 1 (ltb room 20) ∷ []
+
+-- Check 2: odd count of numbers (latitude, longitude alternate); check 3: fewer than 3 or more than 1,024 corners
+abbrev pub shapeChecks : List ℕ → List Check
+shapeChecks numbers =
+    check 2 (eqb (length numbers % 2) 1)
+    ∷ check 3 (outside 3 1024 (length numbers / 2))
+    ∷ []
+
+-- A coordinate above its range
+abbrev pub aboveRange : Point → Bool
+aboveRange p = ltb latEnd (p .lat .0) || ltb lonEnd (p .lon .0)
+
+-- An extent above 7,372,800
+abbrev pub aboveDegree : Rectangle → Bool
+aboveDegree r = ltb degree (latExtent r) || ltb degree (lonExtent r)
+
+-- Check 4, at the first such corner, and check 5
+abbrev pub groundChecks : List Point → List Check
+groundChecks corners =
+    let above : ℕ = firstPlace aboveRange corners in
+    check-at 4 (ltb above (length corners)) above
+    ∷ check 5 (aboveDegree (extremesOf corners))
+    ∷ []
+
 -- Building with a number not in 1 to 1,048,575, or other kind with a number not 0
 abbrev pub badNumber : Kind → ℕ → Bool
 badNumber Building number = outside 1 1048575 number
 badNumber Other number = not (eqb number 0)
+
+-- Check 6
+abbrev pub numberCheck : Kind → ℕ → List Check
+numberCheck kind number = check 6 (badNumber kind number) ∷ []
 
 -- No cell of levels 9 to 27 is inside
 abbrev pub noCell : Choice → Bool
@@ -77,34 +116,22 @@ abbrev pub spanAbove : Rectangle → ℕ → Choice → Bool
 spanAbove r number (At c) = above31 (fieldsOf r number c)
 spanAbove r number Nowhere = false
 
--- The code of a unit from its extremes, its number and its chosen cell
-abbrev pub codeAt : Rectangle → ℕ → Choice → List ℕ
-codeAt r number (At c) = codeOf (fieldsOf r number c)
-codeAt r number Nowhere = []
+-- Checks 7 and 8, of the chosen cell
+abbrev pub cellChecks : Rectangle → ℕ → Choice → List Check
+cellChecks r number choice = check 7 (noCell choice) ∷ check 8 (spanAbove r number choice) ∷ []
 
--- Coding, 4 to 8: what the corners, the kind and the unit number tell
+-- From 4 on: what the corners, the kind and the unit number tell
 unfoldable pub cornerChecks : List Point → Kind → ℕ → List Check
 cornerChecks corners kind number =
-    let r : Rectangle = extremesOf corners in
-    let above : ℕ = firstPlace aboveRange corners in
-    check-at 4 (ltb above (length corners)) above
-    ∷ check 5 (ltb 7372800 (latExtent r) || ltb 7372800 (lonExtent r))
-    ∷ check 6 (badNumber kind number)
-    ∷ check 7 (noCell (choose corners))
-    ∷ check 8 (spanAbove r number (choose corners))
-    ∷ []
+    groundChecks corners ++ numberCheck kind number ++ cellChecks (extremesOf corners) number (chosenCell corners)
 
--- Coding: 1 to 3, then the others; the output by its length
+-- Coding's checks in order; the output by its length
 abbrev pub codeChecks : ℕ → List ℕ → Kind → ℕ → List Check
-codeChecks room numbers kind number =
-    check 1 (ltb room 20)
-    ∷ check 2 (eqb (length numbers % 2) 1)
-    ∷ check 3 (outside 3 1024 (length numbers / 2))
-    ∷ cornerChecks (cornersOf numbers) kind number
+codeChecks room numbers kind number = roomCheck room ++ shapeChecks numbers ++ cornerChecks (cornersOf numbers) kind number
 
 -- Coding, from room, numbers, kind and unit number to what it says and the room
 unfoldable pub coding : List ℕ → List ℕ → Kind → ℕ → Outcome
 coding room numbers kind number =
     outcome (run (codeChecks (length room) numbers kind number))
-    (codeAt (extremesOf (cornersOf numbers)) number (choose (cornersOf numbers)))
+    (codeAt (extremesOf (cornersOf numbers)) number (chosenCell (cornersOf numbers)))
     room

@@ -1,5 +1,5 @@
 -- A rectangle that is widened corner by corner until it is the unit's extremes. Assumes nothing.
-use Prim.Native.Nat.{ℕ, _+_, _/_, _<_, _≤_, min, max}
+use Prim.Native.Nat.{ℕ, _+_, _/_, _<_, _≤_}
 use native.Mathlib.Numerals.{add-one}
 use native.Mathlib.Omega.{arith}
 use mathlib.Core.Path.{_≡_, refl, ap, ap₂, sym, _∙_}
@@ -8,19 +8,11 @@ use lib.ListN.{length, drop, drop-of-length-le}
 use Rattle.ground.specs.declared.Point.{Point}
 use Rattle.ground.specs.declared.Rectangle.{Rectangle}
 use Rattle.ground.specs.Levels.{lat, lon}
-use Rattle.boundary.specs.Corners.{cornersOf, cornerAt, corners-length, corners-from}
+use Rattle.ground.specs.Rectangles.{widened}
+use Rattle.corners.specs.Corners.{cornersOf, cornerAt, corners-length, corners-from}
 use Rattle.unit.specs.Extents.{leastFrom, greatestFrom, lats, lons, extremesOf}
 
--- A rectangle widened to hold a point
-abbrev pub widened : Rectangle → Point → Rectangle
-widened r p = record {
-  west = lon (min (r .west .0) (p .lon .0));
-  east = lon (max (r .east .0) (p .lon .0));
-  south = lat (min (r .south .0) (p .lat .0));
-  north = lat (max (r .north .0) (p .lat .0));
-}
-
--- and to hold some more
+-- A rectangle widened to hold some points
 abbrev pub widenedBy : Rectangle → List Point → Rectangle
 widenedBy r [] = r
 widenedBy r (p ∷ ps) = widenedBy (widened r p) ps

@@ -1,46 +1,15 @@
 // The extents of a unit, and its first corner above the range, over the caller's numbers.
 ghost use mathlib.Core.Path.{_≡_};
-ghost use Prim.Native.Nat.{_-_, min, max};
+ghost use Prim.Native.Nat.{_-_};
 ghost use Rattle.facts.specs.Places.{firstPlace};
-ghost use Rattle.boundary.specs.Corners.{cornersOf};
-ghost use Rattle.unit.specs.Extents.{extremesOf, latExtent, lonExtent};
+ghost use Rattle.corners.specs.Corners.{cornersOf};
+ghost use Rattle.unit.specs.Extents.{extremesOf, latExtent, lonExtent, spanOf};
 ghost use Rattle.unit.specs.Unit.{aboveRange};
-ghost use Rattle.unit.specs.Widening.{widened};
-use boundary::corner;
+use corners::corner;
 use ground::Lat;
 use ground::Lon;
 use ground::Point;
 use ground::Rectangle;
-
-fn lesser(a: u32, b: u32) -> u32
-    ensures { λ r. ⌜ r ≡ min a b ⌝ }
-{
-    if a < b { a } else { b }
-}
-
-fn greater(a: u32, b: u32) -> u32
-    ensures { λ r. ⌜ r ≡ max a b ⌝ }
-{
-    if a < b { b } else { a }
-}
-
-// A rectangle widened to hold a point.
-fn widen(r: Rectangle, p: Point) -> Rectangle
-    ensures { λ w. ⌜ w ≡ widened r p ⌝ }
-{
-    let west = r.west;
-    let east = r.east;
-    let south = r.south;
-    let north = r.north;
-    let lat = p.lat;
-    let lon = p.lon;
-    Rectangle {
-        west: Lon(lesser(west.0, lon.0)),
-        east: Lon(greater(east.0, lon.0)),
-        south: Lat(lesser(south.0, lat.0)),
-        north: Lat(greater(north.0, lat.0)),
-    }
-}
 
 // The unit's own extremes; all sides 0 where it has no corner.
 pub fn extremes(numbers: &[u32]) -> Rectangle
@@ -66,21 +35,21 @@ pub fn extremes(numbers: &[u32]) -> Rectangle
     };
     let mut i = 1;
     while i < count {
-        r = widen(r, corner(numbers, i));
+        r = ground::widened(r, corner(numbers, i));
         i += 1;
     }
     r
 }
 
 // A number less another, and 0 where that is greater.
-pub(crate) fn less(a: u32, b: u32) -> u32
+fn less(a: u32, b: u32) -> u32
     ensures { λ r. ⌜ r ≡ a - b ⌝ }
 {
     if a < b { 0 } else { a - b }
 }
 
 // The extent in latitude.
-pub(crate) fn lat_extent(r: Rectangle) -> u32
+fn lat_extent(r: Rectangle) -> u32
     ensures { λ e. ⌜ e ≡ latExtent r ⌝ }
 {
     let south = r.south;
@@ -89,12 +58,21 @@ pub(crate) fn lat_extent(r: Rectangle) -> u32
 }
 
 // The extent in longitude.
-pub(crate) fn lon_extent(r: Rectangle) -> u32
+fn lon_extent(r: Rectangle) -> u32
     ensures { λ e. ⌜ e ≡ lonExtent r ⌝ }
 {
     let west = r.west;
     let east = r.east;
     less(east.0, west.0)
+}
+
+// The larger of the two extents.
+pub fn span(r: Rectangle) -> u32
+    ensures { λ s. ⌜ s ≡ spanOf r ⌝ }
+{
+    let lat = lat_extent(r);
+    let lon = lon_extent(r);
+    if lat < lon { lon } else { lat }
 }
 
 // Whether a point has a coordinate above its range.
@@ -103,7 +81,7 @@ fn above_range(p: Point) -> bool
 {
     let lat = p.lat;
     let lon = p.lon;
-    663552000 < lat.0 || 1327104000 < lon.0
+    ground::LAT_END < lat.0 || ground::LON_END < lon.0
 }
 
 // The place of the first corner with a coordinate above its range, or the count of corners.

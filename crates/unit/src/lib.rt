@@ -1,17 +1,11 @@
-// A unit: what coding is, and the frame that both roads share around their search. The definitions
-// are in specs/: the chosen cell in Chosen.antt, scale, spans, checks and coding in Unit.antt, the
-// frame in Frame.antt.
-mod checking;
-mod ending;
+// A unit: what coding is, its answers, and the unit's extents. The definitions are in specs/: scale,
+// spans, checks and coding in Unit.antt, the frame that both roads share around their search in
+// Frame.antt.
 mod extents;
-mod scale;
 
-pub use checking::checks;
-pub use ending::finish;
 pub use extents::extremes;
 pub use extents::first_above;
-use ground::Cell;
-pub use scale::scale_of;
+pub use extents::span;
 ghost use mathlib.Core.Path.{_≡_};
 ghost use Rattle.unit.specs.Frame.{says};
 ghost use Rattle.unit.specs.Unit.{kindOf};
@@ -30,12 +24,6 @@ pub fn kind_of(letter: u8) -> Kind
         return Kind::Building;
     }
     Kind::Other
-}
-
-// What a search for the chosen cell answers.
-pub enum Choice {
-    At(Cell),
-    Nowhere,
 }
 
 // What coding answers: acceptance, or what is refused (1 to 8).

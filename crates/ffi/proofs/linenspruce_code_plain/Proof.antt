@@ -1,6 +1,5 @@
 -- `ffi::linenspruce_code_plain` meets its contract: the road's promise, with kind and answer in numbers. Assumes nothing.
 use borrow.Author.Needs.{needs}
-use Rattle.ffi.specs.Replying.{road-leaves}
 use Rattle.ffi.proofs.linenspruce_code_plain.Statement.{statement}
 use Rattle.ffi.proofs.linenspruce_code_plain.Tie as tie
 
@@ -19,10 +18,7 @@ same-length c = search needs
 returns : tie.Need-returns
 returns c =
     let road = c .before .before .before in
-    let kind = road .before in
-    let a = kind .before .before .before .before .args in
-    road-leaves (c .coded .result) (road .code .result) (a .kind .letter) (kind .kind-of .result) (a .number) (a .numbers .now) (a .room .now)
-    (road .code .last .0) (c .coded .ensures) (kind .kind-of .ensures) (road .code .ensures)
+    rw (c .coded .ensures, ← road .before .kind-of .ensures) (road .code .ensures)
 
 pub linenspruce-code-plain-spec : {M : Type 1} → statement M
 linenspruce-code-plain-spec =

@@ -1,23 +1,24 @@
 -- `plain::chosen` meets its contract: the levels from `level` on are still to be tried. Assumes nothing.
-use Prim.Native.Nat.{_-_}
+use Prim.Native.Nat.{_+_, _-_}
 use native.Mathlib.Omega.{arith}
 use mathlib.Core.Path.{sym, _∙_}
 use borrow.Author.Needs.{needs}
-use Rattle.boundary.specs.Corners.{cornersOf}
-use Rattle.unit.specs.Chosen.{tryLevel, choose}
+use Rattle.ground.specs.Levels.{finestLevel}
+use Rattle.boundary.specs.Listed.{edgesIn}
+use Rattle.chosen.specs.Chosen.{tryLevel, choose}
 use Rattle.plain.specs.Turns.{LevelsLeft, levels-begin, levels-found, levels-again, levels-end}
 use Rattle.plain.proofs.chosen.Statement.{statement}
 use Rattle.plain.proofs.chosen.Tie as tie
 
 abbrev Inv-loop : tie.InvT-loop
-Inv-loop numbers r level₀ level = LevelsLeft (tryLevel (cornersOf numbers)) (choose (cornersOf numbers)) level
+Inv-loop edges r level₀ level = LevelsLeft (tryLevel r (edgesIn edges)) (choose r (edgesIn edges)) level
 
 abbrev μ-loop : tie.MeasureT-loop
-μ-loop numbers r level₀ level = 28 - level
+μ-loop edges r level₀ level = finestLevel + 1 - level
 
 loop-holds : tie.Need-loop-holds Inv-loop μ-loop
 unfolding choose
-loop-holds c = levels-begin (tryLevel (cornersOf (c .before .args .numbers .now)))
+loop-holds c = levels-begin (tryLevel (c .before .args .r) (edgesIn (c .before .args .edges .now)))
 
 try-level-requires : tie.Need-try-level-requires Inv-loop μ-loop
 try-level-requires c κs =

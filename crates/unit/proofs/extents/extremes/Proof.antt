@@ -4,7 +4,7 @@ use mathlib.Core.Path.{ap, sym, subst}
 use borrow.Author.Needs.{needs}
 use lib.ListN.{length}
 use Rattle.ground.specs.declared.Rectangle.{Rectangle}
-use Rattle.boundary.specs.Loops.{no-corners}
+use Rattle.corners.specs.Corners.{no-corners}
 use Rattle.unit.specs.Extents.{extremesOf}
 use Rattle.unit.specs.Widening.{Reached, reach-begin, reach-again, reach-end}
 use Rattle.unit.proofs.extents.extremes.Statement.{statement}
@@ -31,8 +31,8 @@ loop-holds c =
 corner-requires-2 : tie.Need-corner-requires-2 Inv-loop μ-loop
 corner-requires-2 c κs = search needs
 
-widen-requires : tie.Need-widen-requires Inv-loop μ-loop
-widen-requires c κs = search needs
+widened-requires : tie.Need-widened-requires Inv-loop μ-loop
+widened-requires c κs = search needs
 
 add-i : tie.Need-add-i Inv-loop μ-loop
 add-i c = search needs
@@ -44,7 +44,7 @@ loop-again : tie.Need-loop-again Inv-loop μ-loop
 loop-again c =
     let at = c .before .before .before in
     let numbers = at .before .before .before .before .before .before .args .numbers .now in
-    subst (λ (r : Rectangle). Reached numbers r (at .loop .i + 1)) (sym (c .widen .ensures))
+    subst (λ (r : Rectangle). Reached numbers r (at .loop .i + 1)) (sym (c .widened .ensures))
     (reach-again numbers (c .before .corner2 .result) (at .loop .inv) (search needs) (c .before .corner2 .ensures))
 
 returns-2 : tie.Need-returns-2 Inv-loop μ-loop
@@ -60,7 +60,7 @@ extremes-spec =
     corner-requires
     loop-holds
     corner-requires-2
-    widen-requires
+    widened-requires
     add-i
     loop-less
     loop-again

@@ -8,7 +8,7 @@ use lib.ListN.{length, getD}
 use Rattle.ground.specs.declared.Point.{Point}
 use Rattle.ground.specs.Levels.{lat, lon}
 use Rattle.facts.specs.Places.{NoneBefore, begin, again, found, finish}
-use Rattle.boundary.specs.Corners.{cornersOf, corners-length, corner-get}
+use Rattle.corners.specs.Corners.{cornersOf, corners-length, corner-get}
 use Rattle.unit.specs.Unit.{aboveRange}
 use Rattle.unit.proofs.extents.first_above.Statement.{statement}
 use Rattle.unit.proofs.extents.first_above.Tie as tie

@@ -1,0 +1,92 @@
+// Coding's checks before a cell is looked for, table by table.
+ghost use Prim.Native.Nat.{_/_, _≤_};
+ghost use mathlib.Core.Path.{_≡_};
+ghost use lib.ListN.{length};
+ghost use Rattle.replies.specs.Replies.{run};
+ghost use Rattle.corners.specs.Corners.{cornersOf};
+ghost use Rattle.unit.specs.Unit.{badNumber, roomCheck, shapeChecks, groundChecks, numberCheck};
+ghost use Rattle.unit.specs.Frame.{says, firstChecks};
+use ground::DEGREE;
+use unit::Coded;
+use unit::Kind;
+use unit::coded_number;
+
+// What check 1 says of so many bytes of room.
+fn room_check(room: usize) -> Coded
+    ensures { λ r. ⌜ says r ≡ run (roomCheck room) ⌝ }
+{
+    if room < 20 {
+        return Coded::Output;
+    }
+    Coded::Accepted
+}
+
+// What checks 2 and 3 say.
+fn shape_checks(numbers: &[u32]) -> Coded
+    ensures { λ r. ⌜ says r ≡ run (shapeChecks (now (numbers .entry))) ⌝ }
+{
+    if numbers.len() % 2 == 1 {
+        return Coded::Pairs;
+    }
+    let count = numbers.len() / 2;
+    if count < 3 || 1024 < count {
+        return Coded::Corners;
+    }
+    Coded::Accepted
+}
+
+// What checks 4 and 5 say of at most 1,024 corners.
+fn ground_checks(numbers: &[u32]) -> Coded
+    requires { ⌜ length (now numbers) / 2 ≤ 1024 ⌝ }
+    ensures { λ r. ⌜ says r ≡ run (groundChecks (cornersOf (now (numbers .entry)))) ⌝ }
+{
+    let above = unit::first_above(numbers);
+    if above < numbers.len() / 2 {
+        let corner = above as u32;
+        return Coded::Range(corner);
+    }
+    if DEGREE < unit::span(unit::extremes(numbers)) {
+        return Coded::Extent;
+    }
+    Coded::Accepted
+}
+
+// Whether a number is none that a unit of a kind can have.
+fn bad_number(kind: Kind, number: u32) -> bool
+    ensures { λ r. ⌜ r ≡ badNumber kind number ⌝ }
+{
+    match kind {
+        Kind::Building => number < 1 || 1048575 < number,
+        Kind::Other => number != 0,
+    }
+}
+
+// What check 6 says.
+fn number_check(kind: Kind, number: u32) -> Coded
+    ensures { λ r. ⌜ says r ≡ run (numberCheck kind number) ⌝ }
+{
+    if bad_number(kind, number) {
+        return Coded::Number;
+    }
+    Coded::Accepted
+}
+
+// What checks 1 to 6 say of so many bytes of room: the first that refuses, or acceptance; a cell is
+// looked for only then.
+pub fn checks(room: usize, numbers: &[u32], kind: Kind, number: u32) -> Coded
+    ensures { λ r. ⌜ says r ≡ run (firstChecks room (now (numbers .entry)) kind number) ⌝ }
+{
+    let roomy = room_check(room);
+    if coded_number(roomy) != 0 {
+        return roomy;
+    }
+    let shaped = shape_checks(numbers);
+    if coded_number(shaped) != 0 {
+        return shaped;
+    }
+    let grounded = ground_checks(numbers);
+    if coded_number(grounded) != 0 {
+        return grounded;
+    }
+    number_check(kind, number)
+}

@@ -1,0 +1,19 @@
+// The scale of a span.
+ghost use mathlib.Core.Path.{_≡_};
+ghost use Rattle.unit.specs.Unit.{scaleOf};
+use ground::COARSEST;
+use ground::FINEST;
+
+// The finest level, at most 27, whose nominal size times 32 is greater than a span; the coarsest where none is.
+pub fn scale_of(span: u32) -> u32
+    ensures { λ r. ⌜ r ≡ scaleOf span ⌝ }
+{
+    let mut level = FINEST;
+    while COARSEST < level {
+        if span < ground::size(level) * 32 {
+            return level;
+        }
+        level -= 1;
+    }
+    COARSEST
+}

@@ -1,0 +1,168 @@
+-- The laws of the frame: its end around a cell and around none, and that it makes coding whole. Where one of checks 1 to 6 refuses, coding
+-- says what it says and leaves the room; else coding is its end around the chosen cell. Assumes nothing.
+use Prim.Native.Nat.{ℕ, _-_, _*_, _≤_}
+use native.Mathlib.Nat.{sub-zero}
+use native.Mathlib.Omega.{arith}
+use mathlib.Core.Path.{_≡_, refl, ap, ap₂, sym, subst, _∙_}
+use mathlib.Core.Bool.{Bool, true, false, cond, true≢false}
+use mathlib.Core.List.{List, [], _∷_, _++_}
+use lib.Dec.{eqb}
+use lib.ListN.{length, take, replicate, length-replicate, drop, length-drop, length-append}
+use borrow.Author.Tests.{eq-eqb, ne-eqb, le-ltb}
+use Rattle.replies.specs.Replies.{Said, Check, check, run, Outcome, outcome}
+use Rattle.facts.specs.Tests.{none-of}
+use Rattle.ground.specs.declared.Rectangle.{Rectangle}
+use Rattle.ground.specs.declared.Cell.{Cell}
+use Rattle.ground.specs.Cells.{isCell}
+use Rattle.ground.specs.CellsLaws.{is-cell}
+use Rattle.code.specs.declared.Fields.{Fields}
+use Rattle.code.specs.declared.Written.{Written}
+use Rattle.code.specs.Code as code
+use Rattle.code.specs.Code.{writing, codeOf}
+use Rattle.code.specs.WritingLaws.{code-twenty, Good, good-writing, zero-writing, refused-writing}
+use Rattle.corners.specs.Corners.{cornersOf}
+use Rattle.boundary.specs.Listed.{edgesIn, boundaryOf, listedCount, listedEdges}
+use Rattle.boundary.specs.ListedLaws.{have-room, listed-fits, listed-boundary}
+use Rattle.chosen.specs.Chosen.{choose, Over}
+use Rattle.unit.specs.declared.Kind.{Kind}
+use Rattle.unit.specs.declared.Coded.{Coded}
+use Rattle.unit.specs.declared.Coded.the-variants as coded
+use Rattle.chosen.specs.declared.Choice.{Choice}
+use Rattle.chosen.specs.declared.Choice.the-variants.{At, Nowhere}
+use Rattle.unit.specs.Extents.{extremesOf}
+use Rattle.unit.specs.ExtentsLaws.{over-range}
+use Rattle.unit.specs.Unit.{fieldsOf, above31, cellChecks, codeAt, chosenCell, codeChecks, coding}
+use Rattle.unit.specs.CheckLaws.{Entered, entered, first-refuses, first-accepts}
+use Rattle.unit.specs.Cover.{fields-good, chosen-inside, passing}
+use Rattle.unit.specs.Frame.{says, leaves, ending, firstChecks, finishing, Searched}
+
+-- Writing that accepts ends in acceptance, and else in 8; the room is as writing left it
+pub ends : (o : Outcome) (answer : Written) (room : List ℕ) → code.leaves answer room ≡ o → code.says answer .number ≡ 0
+    → leaves coded.Accepted room ≡ ending o
+ends o answer room e k = rw (sym e, eq-eqb (code.says answer .number) 0 k)
+
+pub ends-not : (o : Outcome) (answer : Written) (room : List ℕ) → code.leaves answer room ≡ o → (code.says answer .number ≡ 0 → ⊥)
+    → leaves coded.Span room ≡ ending o
+ends-not o answer room e k = rw (sym e, ne-eqb (code.says answer .number) 0 k)
+
+-- The end around a cell is writing from its fields, and around what is no cell 7
+pub finish-cell : (room : List ℕ) (r : Rectangle) (number : ℕ) (c : Cell) → isCell c ≡ true
+    → ending (writing room (fieldsOf r number c)) ≡ finishing room r number (At c)
+unfolding finishing
+finish-cell room r number c e = rw e
+
+pub finish-none : (room : List ℕ) (r : Rectangle) (number : ℕ) (c : Cell) → isCell c ≡ false
+    → leaves coded.NoCell room ≡ finishing room r number (At c)
+unfolding finishing
+finish-none room r number c e = rw e
+
+pub finish-nowhere : (room : List ℕ) (r : Rectangle) (number : ℕ) → leaves coded.NoCell room ≡ finishing room r number Nowhere
+unfolding finishing
+finish-nowhere room r number = refl
+
+-- Coding leaves no more bytes in a room that has twenty
+pub coding-fits : (room numbers : List ℕ) (kind : Kind) (number : ℕ) → 20 ≤ length room
+    → length (coding room numbers kind number .room) ≤ length room
+unfolding coding
+coding-fits room numbers kind number h =
+    at (eqb (run (codeChecks (length room) numbers kind number) .number) 0) (chosenCell (cornersOf numbers))
+  where
+    at : (b : Bool) (c : Choice) → length (cond b (codeAt (extremesOf (cornersOf numbers)) number c ++ drop 20 room) room) ≤ length room
+    at false c = omega arith
+    at true Nowhere = omega (arith, length-drop 20 room)
+    at true (At c) =
+        let f : Fields = fieldsOf (extremesOf (cornersOf numbers)) number c in
+        omega (arith, length-append (codeOf f) (drop 20 room), length-drop 20 room, code-twenty f)
+
+-- Good fields have no span above 31
+good-spans : (f : Fields) → Good f → above31 f ≡ false
+good-spans f g =
+    none-of (none-of (le-ltb 31 (f .east) (g .east .1)) (le-ltb 31 (f .west) (g .west .1)))
+    (none-of (le-ltb 31 (f .south) (g .south .1)) (le-ltb 31 (f .north) (g .north .1)))
+
+-- What the end of coding is for fields that a span above 31 alone can spoil
+spans-end : (room : List ℕ) (f : Fields) → 20 ≤ length room → (above31 f ≡ false → Good f)
+    → outcome (run (check 8 (above31 f) ∷ [])) (codeOf f) room ≡ ending (writing room f)
+spans-end room f long so = at (above31 f) refl
+  where
+    at : (b : Bool) → above31 f ≡ b → outcome (run (check 8 b ∷ [])) (codeOf f) room ≡ ending (writing room f)
+    at false e = ap ending (sym (good-writing room f long (so e)))
+    at true e =
+        let wrong : writing room f .said .number ≡ 0 → ⊥ =
+        λ k. true≢false (sym e ∙ good-spans f (zero-writing room f k .1)) in
+        let not-0 = ne-eqb (writing room f .said .number) 0 wrong in
+        rw (not-0, refused-writing room f not-0)
+
+-- The rooms that a road lends: for the edges of 1,024 corners, and for the places where they start
+abbrev pub edgeRoom : List ℕ
+edgeRoom = replicate 4096 0
+
+abbrev pub placeRoom : List ℕ
+placeRoom = replicate 1024 0
+
+module _ (numbers : List ℕ) {count : ℕ} (counted : count ≡ listedCount numbers edgeRoom placeRoom) where
+  -- What is listed fits in them
+  pub road-fits : 4 * count ≤ 4096
+  road-fits = omega (arith, listed-fits numbers edgeRoom placeRoom, length-replicate {A = ℕ} 4096 0)
+
+  -- and is the boundary
+  pub road-listed : {r : Rectangle} → Searched numbers r → {listed : List ℕ} → listed ≡ listedEdges numbers edgeRoom placeRoom
+      → edgesIn (take (4 * count - 0) listed) ≡ boundaryOf numbers
+  road-listed s e =
+      let edges-long : length edgeRoom ≡ 4096 = length-replicate {A = ℕ} 4096 0 in
+      let places-long : length placeRoom ≡ 1024 = length-replicate {A = ℕ} 1024 0 in
+      ap₂ (λ (n : ℕ) (ns : List ℕ). edgesIn (take n ns)) (ap (λ (n : ℕ). 4 * n - 0) counted ∙ sub-zero (4 * listedCount numbers edgeRoom placeRoom)) e
+      ∙ listed-boundary numbers edgeRoom placeRoom (have-room numbers edgeRoom placeRoom (omega (arith, s .most)) (omega (arith, s .most)))
+
+module _ (room numbers : List ℕ) (kind : Kind) (number : ℕ) where
+  -- Checks 1 to 6
+  abbrev firsts : List Check
+  firsts = firstChecks (length room) numbers kind number
+
+  -- Where one of them refuses, coding says what it says and leaves the room
+  pub framed-refused : (run firsts .number ≡ 0 → ⊥) → coding room numbers kind number ≡ record { said = run firsts; room = room }
+  unfolding coding
+  framed-refused h = rw (first-refuses (length room) numbers kind number h, ne-eqb (run firsts .number) 0 h)
+
+  -- Else coding is its end around the chosen cell
+  pub framed : run firsts .number ≡ 0
+      → coding room numbers kind number ≡ finishing room (extremesOf (cornersOf numbers)) number (chosenCell (cornersOf numbers))
+  unfolding coding
+  framed e =
+      let choice : Choice = chosenCell (cornersOf numbers) in
+      ap (λ (s : Said). outcome s (codeAt (extremesOf (cornersOf numbers)) number choice) room) (first-accepts (length room) numbers kind number e)
+      ∙ at choice refl (entered room numbers kind number e)
+    where
+      at : (choice : Choice) → chosenCell (cornersOf numbers) ≡ choice → Entered room numbers number
+          → outcome (run (cellChecks (extremesOf (cornersOf numbers)) number choice)) (codeAt (extremesOf (cornersOf numbers)) number choice) room
+          ≡ finishing room (extremesOf (cornersOf numbers)) number choice
+      at (At c) chosen h =
+          let r : Rectangle = extremesOf (cornersOf numbers) in
+          spans-end room (fieldsOf r number c) (h .long) (λ spans. fields-good (passing h chosen spans))
+          ∙ finish-cell room r number c (is-cell c (chosen-inside (h .ground) chosen .0))
+      at Nowhere chosen h = finish-nowhere room (extremesOf (cornersOf numbers)) number
+
+  module _ {said : Said} (first : said ≡ run firsts) where
+    -- So a road that checks 1 to 6 refuse says what they say and leaves the room
+    pub road-refused : (said .number ≡ 0 → ⊥) → record { said = said; room = room } ≡ coding room numbers kind number
+    road-refused h =
+        ap (λ (s : Said). record { said = s; room = room }) first
+        ∙ sym (framed-refused (λ e. h (ap (λ (s : Said). s .number) first ∙ e)))
+
+    module _ (accepts : said .number ≡ 0) {r : Rectangle} (own : r ≡ extremesOf (cornersOf numbers)) where
+      passes : run firsts .number ≡ 0
+      passes = sym (ap (λ (s : Said). s .number) first) ∙ accepts
+
+      -- one that they accept has what its search takes for granted
+      pub road-searches : Searched numbers r
+      road-searches =
+          let h = entered room numbers kind number passes in
+          let over = over-range (cornersOf numbers) (h .ground .range) in
+          record { most = h .shape .most; over = subst (λ (x : Rectangle). Over x (boundaryOf numbers)) (sym own) over }
+
+      -- and codes by ending around the chosen cell
+      pub road-ends : {o : Outcome} {choice : Choice} → choice ≡ choose r (boundaryOf numbers) → o ≡ finishing room r number choice
+          → o ≡ coding room numbers kind number
+      road-ends chosen ended =
+          let found = chosen ∙ ap (λ (x : Rectangle). choose x (boundaryOf numbers)) own in
+          ended ∙ ap₂ (λ (x : Rectangle) (y : Choice). finishing room x number y) own found ∙ sym (framed passes)
