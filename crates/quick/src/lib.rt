@@ -11,8 +11,12 @@ ghost use mathlib.Core.Path.{_≡_};
 ghost use lib.ListN.{length};
 ghost use Rattle.boundary.specs.Listed.{boundaryOf};
 ghost use Rattle.chosen.specs.Chosen.{choose, Over};
+ghost use Rattle.unit.specs.Unit.{coding};
+ghost use Rattle.unit.specs.Frame.{leaves, Searched};
 use chosen::Choice;
 use ground::Rectangle;
+use unit::Coded;
+use unit::Kind;
 
 // The chosen cell, with the rooms that the search is lent: for the edges, the places where they start,
 // and the edges that are kept.
@@ -72,8 +76,7 @@ fn chosen_of_many(numbers: &[u32], r: Rectangle) -> Choice
 // The chosen cell, with rooms as large as the unit needs: making them costs more than finding a house's
 // cell, where they are for a coast's.
 fn chosen(numbers: &[u32], r: Rectangle) -> Choice
-    requires { ⌜ Over r (boundaryOf (now numbers)) ⌝ }
-    requires { ⌜ length (now numbers) / 2 ≤ 1024 ⌝ }
+    requires { ⌜ Searched (now numbers) r ⌝ }
     ensures { λ c. ⌜ c ≡ choose r (boundaryOf (now (numbers .entry))) ⌝ }
 {
     let count = numbers.len() / 2;
@@ -84,4 +87,17 @@ fn chosen(numbers: &[u32], r: Rectangle) -> Choice
         return chosen_of_some(numbers, r);
     }
     chosen_of_many(numbers, r)
+}
+
+// Codes a unit, for all inputs: writes bytes 0 to 19 of the room, or refuses and writes nothing. Its
+// cost grows with the corners, and with the ground that edges meet.
+pub fn code(room: &mut [u8], numbers: &[u32], kind: Kind, number: u32) -> Coded
+    ensures { λ a. ⌜ leaves a (now (room .exit)) ≡ coding (now (room .entry)) (now (numbers .entry)) kind number ⌝ }
+{
+    let said = checking::checks(room.len(), numbers, kind, number);
+    if unit::coded_number(said) != 0 {
+        return said;
+    }
+    let r = unit::extremes(numbers);
+    ending::finish(room, r, number, chosen(numbers, r))
 }
