@@ -16,8 +16,7 @@ use Rattle.chosen.specs.declared.Choice.{Choice}
 use Rattle.unit.specs.declared.Coded.{Coded}
 use Rattle.unit.specs.declared.Coded.the-variants as coded
 use Rattle.unit.specs.Extents.{extremesOf}
-use Rattle.chosen.specs.Chosen.{choose}
-use Rattle.unit.specs.Unit.{fieldsOf, codeAt, cornerChecks, coding}
+use Rattle.unit.specs.Unit.{fieldsOf, codeAt, chosenCell, cornerChecks, coding}
 use Rattle.unit.specs.Frame.{says, leaves}
 use Rattle.unit.specs.SameGround.{Counted, number-same, code-same}
 use Rattle.unit.specs.Cover as cover
@@ -47,7 +46,7 @@ module _ (kind : Kind) (number : ℕ) where
 
   -- and so are bytes 0 to 19 of the room, where coding accepts
   code-told : (room numbers : List ℕ) → coding room numbers kind number .said ≡ accepted
-      → take 20 (coding room numbers kind number .room) ≡ codeAt (extremesOf (cornersOf numbers)) number (choose (cornersOf numbers))
+      → take 20 (coding room numbers kind number .room) ≡ codeAt (extremesOf (cornersOf numbers)) number (chosenCell (cornersOf numbers))
   unfolding coding
   code-told room numbers e =
       let c = cover.coded room numbers kind number e in
@@ -75,7 +74,7 @@ module _ (kind : Kind) (number : ℕ) where
       )
     where
       written : (room numbers later : List ℕ) (a : Coded) → leaves a later ≡ coding room numbers kind number → says a .number ≡ 0
-          → take 20 later ≡ codeAt (extremesOf (cornersOf numbers)) number (choose (cornersOf numbers))
+          → take 20 later ≡ codeAt (extremesOf (cornersOf numbers)) number (chosenCell (cornersOf numbers))
       written room numbers later a promise zero =
           ap (λ (o : Outcome). take 20 (o .room)) promise
           ∙ code-told room numbers (sym (ap (λ (o : Outcome). o .said) promise) ∙ zero-accepts a zero)

@@ -12,7 +12,7 @@ use Rattle.ground.specs.Levels.{sizeOf}
 use Rattle.ground.specs.Cells.{afresh, lowSide, highSide, sidesOf, locationCell}
 use Rattle.ground.specs.Rectangles.{centreOf}
 use Rattle.letters.specs.Letters.{letters, spelledIn}
-use Rattle.boundary.specs.Boundary.{edgesOf, inside}
+use Rattle.boundary.specs.Boundary.{edgesOf, groundInside}
 use Rattle.side.specs.Side.{left, leftOrOn}
 use Rattle.edge.specs.Edge.{misses, crossesEast}
 use Rattle.location.specs.Location.{bitsOf, angleIn, paired, latters, locationOf}
@@ -25,7 +25,7 @@ use Rattle.chosen.specs.declared.Choice.the-variants.{At, Nowhere}
 use Rattle.corners.specs.Corners.{cornersOf}
 use Rattle.unit.specs.Extents.{extremesOf}
 use Rattle.chosen.specs.Chosen.{choose}
-use Rattle.unit.specs.Unit.{scaleOf, fieldsOf, cornerChecks, coding}
+use Rattle.unit.specs.Unit.{scaleOf, fieldsOf, chosenCell, cornerChecks, coding}
 
 -- What a case tries, and what comes out
 pub data Case : Type 0 where
@@ -110,7 +110,7 @@ holds (codes kind number corners code) =
     saying (coding room corners kind number .said) 0 0 && same (coding room corners kind number .room) (bytes code)
 holds (refuses kind number corners refusal) =
     saying (coding room corners kind number .said) refusal 0 && same (coding room corners kind number .room) room
-holds (centres corners level lat lon) = centred (choose (cornersOf corners)) level lat lon
+holds (centres corners level lat lon) = centred (chosenCell (cornersOf corners)) level lat lon
 holds (reads code west east south north) = sides (reading (bytes code)) west east south north
 holds (refusesText text refusal place) = saying (reading (bytes text) .said) refusal place
 holds (scales span level) = eqb (scaleOf span) level
@@ -135,7 +135,7 @@ unfolding sizeOf
     leftOrOn
     misses
     crossesEast
-    inside
+    groundInside
     bitsOf
     angleIn
     paired

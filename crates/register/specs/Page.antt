@@ -4,7 +4,7 @@ use Rattle.facts.specs.Texts.{bytes}
 use Rattle.ground.specs.Levels.{sizeOf}
 use Rattle.ground.specs.Cells.{afresh, lowSide, highSide, sidesOf, locationCell}
 use Rattle.ground.specs.Rectangles.{centreOf}
-use Rattle.boundary.specs.Boundary.{edgesOf, inside}
+use Rattle.boundary.specs.Boundary.{edgesOf, groundInside}
 use Rattle.side.specs.Side.{left, leftOrOn}
 use Rattle.edge.specs.Edge.{misses, crossesEast}
 use Rattle.location.specs.Location.{bitsOf, paired, locationOf}
@@ -32,7 +32,7 @@ unfolding sizeOf
     leftOrOn
     misses
     crossesEast
-    inside
+    groundInside
     bitsOf
     paired
     locationOf
