@@ -23,7 +23,8 @@ use Rattle.quick.specs.Half.{Same, Sound, yes, Else}
 use Rattle.quick.specs.HalfLaws.{sound-same, same-then, then-same}
 use Rattle.quick.specs.Best.{Best}
 use Rattle.quick.specs.Descent.{ByLat, ByLon}
-use Rattle.quick.specs.DescentLaws.{none-best, lat-finest, lon-finest, lat-inside, lat-end, lat-below, lat-whole, lat-between, lat-south, lat-limit, lat-north, lat-joined, lon-whole, lon-same, lon-between, lon-west, lon-limit, lon-stopped, lon-east, lon-joined}
+use Rattle.quick.specs.DescentLaws.{none-best, lat-finest, lat-inside, lat-end, lat-below, lat-whole, lat-between, lat-south, lat-limit, lat-north, lat-joined}
+use Rattle.quick.specs.DescentLaws.{lon-finest, lon-whole, lon-same, lon-between, lon-west, lon-limit, lon-stopped, lon-east, lon-joined}
 use Rattle.quick.proofs.passing.Tested.{the-type}
 use Rattle.quick.proofs.halving.by_lat.Reads as by-lat
 use Rattle.quick.proofs.halving.by_lat.Kinds as by-lat-kinds
@@ -158,6 +159,10 @@ lon-more t c = c .before .before
 abbrev lon-high : (t : ℕ) → by-lon-lts.After-by-lat3 (lon-calls t) (by-lon-at t) by-lon.Post → by-lon-lts.After-east-half (lon-calls t) (by-lon-at t) by-lon.Post
 lon-high t c = c .before .before .before .before
 
+-- and from what is found in the west half back to the start
+abbrev lon-begun : (t : ℕ) → by-lon-lts.After-by-lat2 (lon-calls t) (by-lon-at t) by-lon.Post → by-lon-lts.Start (lon-calls t) (by-lon-at t) by-lon.Post
+lon-begun t c = lon-start t (lon-at t (lon-both t (lon-low t c)))
+
 module _ (t : ℕ) where
   -- The half is not inside
   lat-met : (c : by-lat-lts.Else1 (lat-calls t) (by-lat-at t) by-lat.Post)
@@ -165,7 +170,8 @@ module _ (t : ℕ) where
   lat-met c =
       let s = lat-start t c in
       let tested = c .before .before .before .before .before .before .before in
-      met-told (edgesIn (s .args .edges .now)) (s .args .half .ground) (tested .test .result) (c .before .before .before .before .before .before .match .keys2) (c .before .match2 .keys2)
+      met-told (edgesIn (s .args .edges .now)) (s .args .half .ground) (tested .test .result)
+      (c .before .before .before .before .before .before .match .keys2) (c .before .match2 .keys2)
       (tested .test .ensures .1 .1)
 
   -- What is found in the south half is the first there
@@ -259,7 +265,8 @@ module _ (t : ℕ) where
   by-lat-returns-2 : by-lat-lts.Need-returns-2 (lat-calls t) (by-lat-at t) by-lat.Post
   by-lat-returns-2 c =
       let s = c .before .before .before .before .before .before .before .before .before .before .before in
-      let inside = subst (Else (edgesIn (s .args .edges .now)) (s .args .half .ground)) (c .enum-told2 .given .1) (c .before .before .before .before .before .before .before .test .ensures .1 .1) in
+      let inside = subst (Else (edgesIn (s .args .edges .now)) (s .args .half .ground)) (c .enum-told2 .given .1)
+      (c .before .before .before .before .before .before .before .test .ensures .1 .1) in
       (lat-inside (s .pre .1) inside, λ j h. refl)
 
   by-lat-same-length-3 : by-lat-lts.Need-same-length-3 (lat-calls t) (by-lat-at t) by-lat.Post
@@ -269,7 +276,8 @@ module _ (t : ℕ) where
   by-lat-returns-3 c =
       let s = c .before .before .before .before .before .before .before .before .before .before .before in
       let tested = c .before .before .before .before .before .before .before in
-      let met = met-told (edgesIn (s .args .edges .now)) (s .args .half .ground) (tested .test .result) (c .before .before .before .before .before .before .match .keys2) (c .before .match2 .keys2)
+      let met = met-told (edgesIn (s .args .edges .now)) (s .args .half .ground) (tested .test .result)
+      (c .before .before .before .before .before .before .match .keys2) (c .before .match2 .keys2)
       (tested .test .ensures .1 .1) in
       (lat-end (s .pre .1) (c .if1 .taken) met, λ j h. refl)
 
@@ -440,7 +448,7 @@ module _ (t : ℕ) where
 
   by-lon-sub-west-half : by-lon-lts.Need-sub-west-half (lon-calls t) (by-lon-at t) by-lon.Post
   by-lon-sub-west-half c =
-      omega (arith, c .before .before .before .before .before .before .before .before .before .before .before .before .pre .1 .odd)
+      omega (arith, lon-start t (lon-at t (c .before)) .pre .1 .odd)
 
   by-lon-west-half-requires : by-lon-lts.Need-west-half-requires (lon-calls t) (by-lon-at t) by-lon.Post
   by-lon-west-half-requires c κs =
@@ -451,7 +459,7 @@ module _ (t : ℕ) where
 
   by-lon-sub-by-lat-2 : by-lon-lts.Need-sub-by-lat-2 (lon-calls t) (by-lon-at t) by-lon.Post
   by-lon-sub-by-lat-2 c =
-      omega (arith, c .before .before .before .before .before .before .before .before .before .before .before .before .before .before .before .before .pre .1 .odd)
+      omega (arith, lon-start t (lon-at t (lon-both t (c .before .before .before))) .pre .1 .odd)
 
   by-lon-by-lat-requires-2 : by-lon-lts.Need-by-lat-requires-2 (lon-calls t) (by-lon-at t) by-lon.Post
   by-lon-by-lat-requires-2 c κs =
@@ -465,7 +473,7 @@ module _ (t : ℕ) where
 
   by-lon-add-level-of : by-lon-lts.Need-add-level-of (lon-calls t) (by-lon-at t) by-lon.Post
   by-lon-add-level-of c =
-      omega (arith, c .before .before .before .before .before .before .before .before .before .before .before .before .before .before .before .before .before .before .before .pre .1 .most)
+      omega (arith, lon-begun t (c .before .before) .pre .1 .most)
 
   by-lon-level-of-requires : by-lon-lts.Need-level-of-requires (lon-calls t) (by-lon-at t) by-lon.Post
   by-lon-level-of-requires c κs = search needs
@@ -490,18 +498,19 @@ module _ (t : ℕ) where
 
   by-lon-sub-fewer : by-lon-lts.Need-sub-fewer (lon-calls t) (by-lon-at t) by-lon.Post
   by-lon-sub-fewer c =
-      omega (arith, c .before .before .before .before .before .before .before .before .before .before .before .before .before .before .before .before .before .before .before .before .before .pre .1 .odd)
+      omega (arith, lon-begun t (lon-first t (lon-limited t c)) .pre .1 .odd)
 
   by-lon-sub-fewer-2 : by-lon-lts.Need-sub-fewer-2 (lon-calls t) (by-lon-at t) by-lon.Post
   by-lon-sub-fewer-2 c = lon-left (c .before) .1
 
   by-lon-mul-fewer : by-lon-lts.Need-mul-fewer (lon-calls t) (by-lon-at t) by-lon.Post
   by-lon-mul-fewer c =
-      omega (arith, c .before .before .before .before .before .before .before .before .before .before .before .before .before .before .before .before .before .before .before .before .before .pre .1 .most)
+      omega (arith, lon-begun t (lon-first t (lon-limited t c)) .pre .1 .most)
 
   by-lon-sub-fewer-3 : by-lon-lts.Need-sub-fewer-3 (lon-calls t) (by-lon-at t) by-lon.Post
   by-lon-sub-fewer-3 c =
-      omega (arith, c .if2 .left, c .before .before .before .before .before .before .before .before .before .before .before .before .before .before .before .before .before .before .before .before .before .pre .1 .odd, c .before .before .before .before .before .before .before .before .before .before .before .before .before .before .before .before .before .before .before .before .before .pre .1 .coarsest)
+      let b = lon-begun t (lon-first t (lon-limited t c)) .pre .1 in
+      omega (arith, c .if2 .left, b .odd, b .coarsest)
 
   by-lon-east-half-requires : by-lon-lts.Need-east-half-requires (lon-calls t) (by-lon-at t) by-lon.Post
   by-lon-east-half-requires c κs =
