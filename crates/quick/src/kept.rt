@@ -162,7 +162,7 @@ pub(crate) fn part_of(
     let east = half.east;
     let from = half.from;
     let to = half.to;
-    if left < 3 || to - from < 3 {
+    if left < 6 || to - from < 3 {
         return Half {
             ground: part,
             corner,

@@ -37,27 +37,27 @@ fn chosen_in(
     search::search(&edges[0..end], kept, r)
 }
 
-// The chosen cell of a unit of up to 16 corners.
-fn chosen_of_few(numbers: &[u32], r: Rectangle) -> Choice
-    requires { ⌜ Over r (boundaryOf (now numbers)) ⌝ }
-    requires { ⌜ length (now numbers) / 2 ≤ 16 ⌝ }
-    ensures { λ c. ⌜ c ≡ choose r (boundaryOf (now (numbers .entry))) ⌝ }
-{
-    let mut edges = [0u32; 64];
-    let mut places = [0usize; 16];
-    let mut kept = [0u32; 512];
-    chosen_in(numbers, r, &mut edges, &mut places, &mut kept)
-}
-
 // The chosen cell of a unit of up to 128 corners.
-fn chosen_of_some(numbers: &[u32], r: Rectangle) -> Choice
+fn chosen_of_few(numbers: &[u32], r: Rectangle) -> Choice
     requires { ⌜ Over r (boundaryOf (now numbers)) ⌝ }
     requires { ⌜ length (now numbers) / 2 ≤ 128 ⌝ }
     ensures { λ c. ⌜ c ≡ choose r (boundaryOf (now (numbers .entry))) ⌝ }
 {
     let mut edges = [0u32; 512];
     let mut places = [0usize; 128];
-    let mut kept = [0u32; 4096];
+    let mut kept = [0u32; 512];
+    chosen_in(numbers, r, &mut edges, &mut places, &mut kept)
+}
+
+// The chosen cell of a unit of up to 256 corners.
+fn chosen_of_some(numbers: &[u32], r: Rectangle) -> Choice
+    requires { ⌜ Over r (boundaryOf (now numbers)) ⌝ }
+    requires { ⌜ length (now numbers) / 2 ≤ 256 ⌝ }
+    ensures { λ c. ⌜ c ≡ choose r (boundaryOf (now (numbers .entry))) ⌝ }
+{
+    let mut edges = [0u32; 1024];
+    let mut places = [0usize; 256];
+    let mut kept = [0u32; 1024];
     chosen_in(numbers, r, &mut edges, &mut places, &mut kept)
 }
 
@@ -80,10 +80,10 @@ fn chosen(numbers: &[u32], r: Rectangle) -> Choice
     ensures { λ c. ⌜ c ≡ choose r (boundaryOf (now (numbers .entry))) ⌝ }
 {
     let count = numbers.len() / 2;
-    if count <= 16 {
+    if count <= 128 {
         return chosen_of_few(numbers, r);
     }
-    if count <= 128 {
+    if count <= 256 {
         return chosen_of_some(numbers, r);
     }
     chosen_of_many(numbers, r)

@@ -1,4 +1,4 @@
--- `quick::chosen_of_some` meets its contract: the rooms have place for 128 edges. Assumes nothing.
+-- `quick::chosen_of_some` meets its contract: the rooms have place for 256 edges. Assumes nothing.
 use native.Mathlib.Omega.{arith}
 use borrow.Author.Needs.{needs}
 use Rattle.quick.proofs.chosen_of_some.Statement.{statement}
