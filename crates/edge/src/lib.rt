@@ -172,6 +172,8 @@ pub fn turns(p: Point, q: Point, east: Lon, a: Point, b: Point) -> bool
     ensures { λ m. ⌜ m ≡ Edge·turns east p q (edge a b) ⌝ }
 {
     let ends = between(p, q, east, a) != between(p, q, east, b);
-    let crossings = crosses_east(p, a, b) != crosses_east(q, a, b);
-    crossings != ends
+    if straddles(p, a, b) || straddles(q, a, b) {
+        return (crosses_east(p, a, b) != crosses_east(q, a, b)) != ends;
+    }
+    ends
 }

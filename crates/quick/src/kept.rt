@@ -1,17 +1,10 @@
 // The edges that are kept for a half, in a lent room: an edge that misses a half misses all in it, and may
 // be left out on the way down. An edge stands there as in a list of edges.
-ghost use Prim.Native.Nat.{_*_, _/_, _≤_, _<_};
-ghost use mathlib.Core.Path.{_≡_};
-ghost use mathlib.Core.Bool.{true};
-ghost use lib.ListN.{length};
-ghost use Rattle.ground.specs.Rectangles.{Lies};
-ghost use Rattle.edge.specs.Edge.{edge, misses};
-ghost use Rattle.boundary.specs.Boundary.{pointInside, unmet as Boundary·unmet};
-ghost use Rattle.boundary.specs.Listed.{edgesIn};
-ghost use Rattle.quick.specs.Half.{Same, KeptFor, Sound, Part, AllIn};
 use crate::half::Half;
 use boundary::put_edge;
 use corners::corner;
+use ground::Lat;
+use ground::Lon;
 use ground::Point;
 use ground::Rectangle;
 
@@ -21,41 +14,58 @@ pub struct Places {
     pub to: usize,
 }
 
-// Puts all edges of a list at the room's start.
-pub(crate) fn keep_all(edges: &[u32], room: &mut [u32])
-    requires { ⌜ length (now edges) / 4 ≤ length (now room) / 4 ⌝ }
-    ensures { λ _. ⌜ AllIn (now (edges .entry)) (now (room .exit)) ⌝ }
+// An edge by its ends.
+pub struct Ends {
+    pub a: Point,
+    pub b: Point,
+}
+
+fn ends(room: &[u32], i: usize) -> Ends
 {
-    let count = edges.len() / 4;
-    let mut i = 0;
-    while i < count {
-        put_edge(room, i, corner(edges, 2 * i), corner(edges, 2 * i + 1));
-        i += 1;
+    Ends {
+        a: Point { lat: Lat(room[4 * i]), lon: Lon(room[4 * i + 1]) },
+        b: Point { lat: Lat(room[4 * i + 2]), lon: Lon(room[4 * i + 3]) },
     }
 }
 
-// Whether no edge meets a half.
-pub(crate) fn unmet(edges: &[u32], room: &[u32], half: Half) -> bool
-    requires { ⌜ Sound (edgesIn (now edges)) (now room) half ⌝ }
-    ensures { λ m. ⌜ m ≡ Boundary·unmet (half .ground) (edgesIn (now (edges .entry))) ⌝ }
+// The place of the next edge, from a place on, that is not beyond one side of ground.
+fn next_near(room: &[u32], ground: Rectangle, from: usize, to: usize) -> usize
 {
-    let ground = half.ground;
-    let to = half.to;
-    let mut i = half.from;
+    let mut i = from;
     while i < to {
-        if !edge::misses(corner(room, 2 * i), corner(room, 2 * i + 1), ground) {
-            return false;
+        let e = ends(room, i);
+        if !edge::beyond(e.a, e.b, ground) {
+            return i;
         }
         i += 1;
     }
-    true
+    to
+}
+
+// Whether an edge that is not beyond meets.
+fn meets(a: Point, b: Point, r: Rectangle) -> bool
+{
+    within(a, r) || within(b, r) || !edge::aside(a, b, r)
+}
+
+// The place of the first of a half's edges that meets it; the end where none does.
+pub(crate) fn first_met(numbers: &[u32], room: &[u32], half: Half) -> usize
+{
+    let ground = half.ground;
+    let to = half.to;
+    let mut i = next_near(room, ground, half.first, to);
+    while i < to {
+        let e = ends(room, i);
+        if meets(e.a, e.b, ground) {
+            return i;
+        }
+        i = next_near(room, ground, i + 1, to);
+    }
+    to
 }
 
 // Whether the count is odd at a point of a half: the kept edges alone turn it.
-pub(crate) fn odd_at(edges: &[u32], room: &[u32], half: Half, q: Point) -> bool
-    requires { ⌜ Sound (edgesIn (now edges)) (now room) half ⌝ }
-    requires { ⌜ Lies (half .ground) q ⌝ }
-    ensures { λ m. ⌜ m ≡ pointInside q (edgesIn (now (edges .entry))) ⌝ }
+pub(crate) fn odd_at(numbers: &[u32], room: &[u32], half: Half, q: Point) -> bool
 {
     let p = half.corner;
     let east = half.east;
@@ -63,14 +73,14 @@ pub(crate) fn odd_at(edges: &[u32], room: &[u32], half: Half, q: Point) -> bool
     let mut odd = half.odd;
     let mut i = half.from;
     while i < to {
-        odd = odd != edge::turns(p, q, east, corner(room, 2 * i), corner(room, 2 * i + 1));
+        let e = ends(room, i);
+        odd = odd != edge::turns(p, q, east, e.a, e.b);
         i += 1;
     }
     odd
 }
 
-// Whether a point lies strictly within a rectangle. It only decides what a search costs, and nothing is
-// promised of it.
+// Whether a point lies strictly within a rectangle.
 fn within(p: Point, r: Rectangle) -> bool {
     let lat = p.lat;
     let lon = p.lon;
@@ -81,96 +91,75 @@ fn within(p: Point, r: Rectangle) -> bool {
     west.0 < lon.0 && lon.0 < east.0 && south.0 < lat.0 && lat.0 < north.0
 }
 
-// Whether an edge may be left out for a rectangle: one with an end strictly within is kept without a
-// further test, and of the others those that miss it are left out. The comparisons stand here by
-// themselves, so that a call is made only where they leave it open.
+// Whether an edge misses.
 fn clear(a: Point, b: Point, r: Rectangle) -> bool
-    ensures { λ m. ⌜ (m ≡ true → misses (edge a b) r ≡ true) ⌝ }
 {
+    if edge::beyond(a, b, r) {
+        return true;
+    }
     if within(a, r) {
         return false;
     }
     if within(b, r) {
         return false;
     }
-    edge::beyond(a, b, r) || edge::aside(a, b, r)
+    edge::aside(a, b, r)
 }
-
-// Those of a half's edges that may not be left out for a part of it, put behind them; all of them where
+// Those of a half's edges that may not be left out for it, put behind them; all of them where
 // the room ends.
-fn keep(edges: &[u32], room: &mut [u32], half: Half, part: Rectangle) -> Places
-    requires { ⌜ Sound (edgesIn (now edges)) (now room) half ⌝ }
-    requires { ⌜ Part half part ⌝ }
-    ensures { λ p. ⌜ KeptFor (edgesIn (now (edges .entry))) (now (room .exit)) part (p .from) (p .to) ⌝ }
-    ensures { λ p. ⌜ (half .to ≤ p .to) × Same (half .to) (now (room .entry)) (now (room .exit)) ⌝ }
+fn keep(numbers: &[u32], room: &mut [u32], ground: Rectangle, from: usize, to: usize) -> usize
 {
-    let from = half.from;
-    let to = half.to;
     let mut end = to;
     let mut i = from;
     while i < to {
-        let a = corner(room, 2 * i);
-        let b = corner(room, 2 * i + 1);
-        if !clear(a, b, part) {
-            if room.len() / 4 <= end {
-                return Places { from, to };
-            }
+        let e = ends(room, i);
+        let a = e.a;
+        let b = e.b;
+        if !clear(a, b, ground) {
             put_edge(room, end, a, b);
             end += 1;
         }
         i += 1;
     }
-    Places { from: to, to: end }
+    end
 }
 
-// A part of a half with edges of its own, and the count at its own corner.
-fn sorted(edges: &[u32], room: &mut [u32], half: Half, part: Rectangle) -> Half
-    requires { ⌜ Sound (edgesIn (now edges)) (now room) half ⌝ }
-    requires { ⌜ Part half part ⌝ }
-    ensures { λ h. ⌜ (h .ground ≡ part) × Sound (edgesIn (now (edges .entry))) (now (room .exit)) h ⌝ }
-    ensures { λ h. ⌜ (half .to ≤ h .to) × Same (half .to) (now (room .entry)) (now (room .exit)) ⌝ }
+// A half whose edges before a place miss it, with edges of its own.
+pub(crate) fn sorted(numbers: &[u32], room: &mut [u32], half: Half, place: usize, left: u32) -> Half
 {
-    let corner = ground::south_west(part);
-    let odd = odd_at(edges, room, half, corner);
-    let places = keep(edges, room, half, part);
-    let east = part.east;
+    let from = half.from;
+    let to = half.to;
+    if left < 6 || to - from < 16 || room.len() / 4 < 2 * to - place {
+        return met_at(half, place);
+    }
+    let ground = half.ground;
+    let corner = ground::south_west(ground);
+    let odd = odd_at(numbers, room, half, corner);
+    let end = keep(numbers, room, ground, place, to);
+    let east = ground.east;
     Half {
-        ground: part,
+        ground,
         corner,
         odd,
         east,
-        from: places.from,
-        to: places.to,
+        from: to,
+        first: to,
+        to: end,
     }
 }
 
-// A part of a half. With few halvings left, or few edges, it shares the half's edges: asking them again costs
-// less than sorting them.
-pub(crate) fn part_of(
-    edges: &[u32],
-    room: &mut [u32],
-    half: Half,
-    part: Rectangle,
-    left: u32,
-) -> Half
-    requires { ⌜ Sound (edgesIn (now edges)) (now room) half ⌝ }
-    requires { ⌜ Part half part ⌝ }
-    ensures { λ h. ⌜ (h .ground ≡ part) × Sound (edgesIn (now (edges .entry))) (now (room .exit)) h ⌝ }
-    ensures { λ h. ⌜ (half .to ≤ h .to) × Same (half .to) (now (room .entry)) (now (room .exit)) ⌝ }
+pub(crate) fn met_at(half: Half, first: usize) -> Half
 {
+    let ground = half.ground;
     let corner = half.corner;
     let east = half.east;
-    let from = half.from;
-    let to = half.to;
-    if left < 6 || to - from < 3 {
-        return Half {
-            ground: part,
-            corner,
-            odd: half.odd,
-            east,
-            from,
-            to,
-        };
+    Half {
+        ground,
+        corner,
+        odd: half.odd,
+        east,
+        from: half.from,
+        first,
+        to: half.to,
     }
-    sorted(edges, room, half, part)
 }

@@ -1,26 +1,19 @@
 // The test for passing over a half.
-ghost use Prim.Native.Nat.{_≤_};
-ghost use mathlib.Core.Path.{_≡_};
-ghost use mathlib.Core.Bool.{true};
-ghost use Rattle.chosen.specs.Chosen.{Over};
-ghost use Rattle.ground.specs.Levels.{IsLevel};
-ghost use Rattle.boundary.specs.Listed.{edgesIn};
-ghost use Rattle.quick.specs.Half.{Sound, common as Half·common, tooLittle, outside, HoldsNone, yes, Else};
 use crate::half::Half;
+use crate::half::Wanted;
+use crate::kept::first_met;
 use crate::kept::odd_at;
-use crate::kept::unmet;
 use ground::Rectangle;
 
-// What the test says of a half: it is passed over; or it is inside, or an edge meets it.
+// What the test says of a half: it is passed over; or it is inside, or an edge meets it, the first at a place.
 pub enum Tested {
     PassedOver,
     Inside,
-    Met,
+    Met(usize),
 }
 
 // How much of an extent lies between two sides.
 fn common(low: u32, high: u32, from: u32, to: u32) -> u32
-    ensures { λ n. ⌜ n ≡ Half·common low high from to ⌝ }
 {
     let start = ground::greater(low, from);
     let end = ground::lesser(high, to);
@@ -29,7 +22,6 @@ fn common(low: u32, high: u32, from: u32, to: u32) -> u32
 
 // Whether ground has less of the extents in it than a width.
 fn too_little(g: Rectangle, r: Rectangle, least: u32) -> bool
-    ensures { λ t. ⌜ t ≡ tooLittle g r least ⌝ }
 {
     let g_west = g.west;
     let g_east = g.east;
@@ -43,26 +35,17 @@ fn too_little(g: Rectangle, r: Rectangle, least: u32) -> bool
         || common(g_west.0, g_east.0, west.0, east.0) < least
 }
 
-// The test for passing over, of a half, the extents and the finest level that is wanted. It says yes for
-// every half that no edge meets and whose centre is not inside, and never for one that holds a wanted cell.
-// A half with less of the extents in it than the narrowest wanted cell holds none; and no count is taken
-// where an edge meets.
-pub(crate) fn test(edges: &[u32], room: &[u32], half: Half, r: Rectangle, finest: u32) -> Tested
-    requires { ⌜ Sound (edgesIn (now edges)) (now room) half ⌝ }
-    requires { ⌜ Over r (edgesIn (now edges)) ⌝ }
-    requires { ⌜ IsLevel finest ⌝ }
-    ensures { λ t. ⌜ (outside (edgesIn (now (edges .entry))) (half .ground) ≡ true → yes t ≡ true) ⌝ }
-    ensures { λ t. ⌜ (yes t ≡ true → HoldsNone (edgesIn (now (edges .entry))) finest (half .ground)) ⌝ }
-    ensures { λ t. ⌜ Else (edgesIn (now (edges .entry))) (half .ground) t ⌝ }
+pub(crate) fn test(numbers: &[u32], room: &[u32], half: Half, wanted: Wanted) -> Tested
 {
     let ground = half.ground;
-    if too_little(ground, r, ground::narrowest(finest)) {
+    if too_little(ground, wanted.r, wanted.least) {
         return Tested::PassedOver;
     }
-    if !unmet(edges, room, half) {
-        return Tested::Met;
+    let place = first_met(numbers, room, half);
+    if place < half.to {
+        return Tested::Met(place);
     }
-    if odd_at(edges, room, half, ground::south_west(ground)) {
+    if odd_at(numbers, room, half, ground::south_west(ground)) {
         return Tested::Inside;
     }
     Tested::PassedOver
