@@ -15,7 +15,7 @@ use ground::Cell;
 use ground::Lon;
 
 // The finest level of which a cell may come before what is found, in ground from a west side on.
-fn limit(found: Choice, west: Lon, finest: u32) -> u32
+pub(crate) fn limit(found: Choice, west: Lon, finest: u32) -> u32
 {
     let Choice::At(c) = found else {
         return finest;

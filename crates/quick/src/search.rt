@@ -3,6 +3,7 @@
 use crate::half::Half;
 use crate::half::Wanted;
 use crate::halving::by_lat;
+use crate::halving::limit;
 use chosen::Choice;
 use ground::COARSEST;
 use ground::FINEST;
@@ -88,6 +89,9 @@ fn in_column(numbers: &[u32], room: &mut [u32], count: usize, wanted: Wanted, to
     let r = wanted.r;
     let from = r.south;
     let to = r.north;
+    if limit(before, west, wanted.finest) < wanted.coarsest {
+        return before;
+    }
     let mut found = before;
     let mut south = ground::low_side(top, from.0);
     while south < to.0 {
