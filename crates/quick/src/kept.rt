@@ -129,7 +129,7 @@ pub(crate) fn sorted(numbers: &[u32], room: &mut [u32], half: Half, place: usize
 {
     let from = half.from;
     let to = half.to;
-    if left < 6 || to - from < 16 || room.len() / 4 < 2 * to - place {
+    if left < 6 || to - from < 8 || room.len() / 4 < 2 * to - place {
         return met_at(half, place);
     }
     let ground = half.ground;

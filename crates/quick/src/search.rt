@@ -125,7 +125,7 @@ fn in_levels(numbers: &[u32], room: &mut [u32], count: usize, wanted: Wanted, to
 
 fn finest_with(r: Rectangle, level: u32) -> u32
 {
-    if !short(r, level, 12) {
+    if !short(r, level, 14) {
         return level;
     }
     if level < FINEST - 7 {
