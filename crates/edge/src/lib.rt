@@ -33,16 +33,16 @@ pub fn beyond(a: Point, b: Point, r: Rectangle) -> bool
     let east = r.east;
     let south = r.south;
     let north = r.north;
-    if both_most(a_lon.0, west.0, b_lon.0, west.0) {
+    if ground::greater(a_lon.0, b_lon.0) <= west.0 {
         return true;
     }
-    if both_most(east.0, a_lon.0, east.0, b_lon.0) {
+    if east.0 <= ground::lesser(a_lon.0, b_lon.0) {
         return true;
     }
-    if both_most(a_lat.0, south.0, b_lat.0, south.0) {
+    if ground::greater(a_lat.0, b_lat.0) <= south.0 {
         return true;
     }
-    both_most(north.0, a_lat.0, north.0, b_lat.0)
+    north.0 <= ground::lesser(a_lat.0, b_lat.0)
 }
 
 // The latitude of the corner that is furthest right of the line from a to b.
@@ -167,13 +167,49 @@ fn between(p: Point, q: Point, east: Lon, v: Point) -> bool
     east.0 <= at.0 && (height.0 <= p_lat.0) != (height.0 <= q_lat.0)
 }
 
+// Whether a corner is at or below the latitude of one of two points alone.
+fn parted(p: Point, q: Point, v: Point) -> bool
+{
+    let height = v.lat;
+    let p_lat = p.lat;
+    let q_lat = q.lat;
+    (height.0 <= p_lat.0) != (height.0 <= q_lat.0)
+}
+
 // Whether an edge turns the count from odd to even, or back, between two points west of an east side.
 pub fn turns(p: Point, q: Point, east: Lon, a: Point, b: Point) -> bool
     ensures { λ m. ⌜ m ≡ Edge·turns east p q (edge a b) ⌝ }
 {
-    let ends = between(p, q, east, a) != between(p, q, east, b);
     if straddles(p, a, b) || straddles(q, a, b) {
+        let ends = between(p, q, east, a) != between(p, q, east, b);
         return (crosses_east(p, a, b) != crosses_east(q, a, b)) != ends;
     }
-    ends
+    let a_lon = a.lon;
+    let b_lon = b.lon;
+    parted(p, q, a) && (east.0 <= a_lon.0) != (east.0 <= b_lon.0)
+}
+
+// Whether an edge of some length has an end strictly within a rectangle.
+pub fn ends_within(a: Point, b: Point, r: Rectangle) -> bool
+{
+    (within(a, r) || within(b, r)) && !one_point(a,b)
+}
+
+fn one_point(a: Point, b: Point) -> bool
+{
+    let a_lat = a.lat;
+    let a_lon = a.lon;
+    let b_lat = b.lat;
+    let b_lon = b.lon;
+    a_lat.0 == b_lat.0 && a_lon.0 == b_lon.0
+}
+
+fn within(p: Point, r: Rectangle) -> bool {
+    let lat = p.lat;
+    let lon = p.lon;
+    let west = r.west;
+    let east = r.east;
+    let south = r.south;
+    let north = r.north;
+    west.0 < lon.0 && lon.0 < east.0 && south.0 < lat.0 && lat.0 < north.0
 }

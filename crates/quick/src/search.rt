@@ -1,9 +1,9 @@
 // The search for the chosen cell, from the first level whose cells can fit the extents: each level, or some
 // together, by halving the cells of a coarser level that lie over the extents.
 use crate::half::Half;
-use crate::half::Wanted;
+use crate::half::Sought;
 use crate::halving::by_lat;
-use crate::halving::limit;
+use crate::halving::settled;
 use chosen::Choice;
 use ground::COARSEST;
 use ground::FINEST;
@@ -64,9 +64,9 @@ fn top_of(r: Rectangle, level: u32) -> u32
 }
 
 
-fn in_cell(numbers: &[u32], room: &mut [u32], count: usize, cell: Rectangle, wanted: Wanted, top: u32, found: Choice) -> Choice
+fn in_cell(numbers: &[u32], room: &mut [u32], count: usize, cell: Rectangle, sought: Sought, top: u32, found: Choice) -> Choice
 {
-    let r = wanted.r;
+    let r = sought.extents;
     let north = r.north;
     let west = r.west;
     let half = Half {
@@ -81,15 +81,15 @@ fn in_cell(numbers: &[u32], room: &mut [u32], count: usize, cell: Rectangle, wan
         first: 0,
         to: count,
     };
-    by_lat(numbers, room, half, wanted, 2 * (wanted.finest - top), found)
+    by_lat(numbers, room, half, sought, 2 * (sought.finest - top), found)
 }
 
-fn in_column(numbers: &[u32], room: &mut [u32], count: usize, wanted: Wanted, top: u32, west: Lon, east: Lon, before: Choice) -> Choice
+fn in_column(numbers: &[u32], room: &mut [u32], count: usize, sought: Sought, top: u32, west: Lon, east: Lon, before: Choice) -> Choice
 {
-    let r = wanted.r;
+    let r = sought.extents;
     let from = r.south;
     let to = r.north;
-    if limit(before, west, wanted.finest) < wanted.coarsest {
+    if settled(before, west, top, sought) {
         return before;
     }
     let mut found = before;
@@ -102,22 +102,22 @@ fn in_column(numbers: &[u32], room: &mut [u32], count: usize, wanted: Wanted, to
             south: Lat(south),
             north: Lat(north),
         };
-        found = in_cell(numbers, room, count, cell, wanted, top, found);
+        found = in_cell(numbers, room, count, cell, sought, top, found);
         south = north;
     }
     found
 }
 
-fn in_levels(numbers: &[u32], room: &mut [u32], count: usize, wanted: Wanted, top: u32) -> Choice
+fn in_levels(numbers: &[u32], room: &mut [u32], count: usize, sought: Sought, top: u32) -> Choice
 {
-    let r = wanted.r;
+    let r = sought.extents;
     let from = r.west;
     let to = r.east;
     let mut found = Choice::Nowhere;
     let mut west = ground::low_side(top, from.0);
     while west < to.0 {
         let east = ground::high_side(top, west) as u32;
-        found = in_column(numbers, room, count, wanted, top, Lon(west), Lon(east), found);
+        found = in_column(numbers, room, count, sought, top, Lon(west), Lon(east), found);
         west = east;
     }
     found
@@ -141,7 +141,7 @@ pub(crate) fn search(numbers: &[u32], room: &mut [u32], count: usize, r: Rectang
     let mut level = first_level(r);
     while level <= FINEST {
         let finest = finest_with(r, level);
-        let found = in_levels(numbers, room, count, Wanted { r, coarsest: level, finest, least: ground::narrowest(finest) }, top_of(r, level));
+        let found = in_levels(numbers, room, count, Sought { extents: r, coarsest: level, finest, least: ground::narrowest(finest) }, top_of(r, level));
         if let Choice::At(c) = found {
             return Choice::At(c);
         }
