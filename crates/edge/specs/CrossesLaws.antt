@@ -9,6 +9,7 @@ use lib.Dec.{leb}
 use borrow.Author.Tests.{leb-true, leb-false, le-leb, lt-leb, lt-ltb, le-ltb}
 use Rattle.facts.specs.Tests.{differ, differ-self, differ-comm, exchange}
 use Rattle.facts.specs.Numbers.{product-le, product-lt, either-way}
+use Rattle.ground.specs.declared.Lon.{Lon}
 use Rattle.ground.specs.declared.Point.{Point}
 use Rattle.ground.specs.declared.Rectangle.{Rectangle}
 use Rattle.ground.specs.Levels.{lon}
@@ -270,6 +271,13 @@ module _ {r : Rectangle} {p q : Point} (in-p : Lies r p) (in-q : Lies r q) where
   turns-none e t =
       let ends : Bool = differ (between (r .east) p q (e .start)) (between (r .east) p q (e .end)) in
       ap (λ (x : Bool). differ x ends) (tells e (missed e r t)) ∙ differ-self ends
+
+-- Where neither latitude is between the ends of an edge, nothing is crossed, and the ends alone turn the count
+pub turns-ends : (side : Lon) (p q : Point) (e : Edge) → differ (low (e .start) p) (low (e .end) p) ≡ false
+    → differ (low (e .start) q) (low (e .end) q) ≡ false
+    → turns side p q e ≡ differ (between side p q (e .start)) (between side p q (e .end))
+unfolding turns
+turns-ends side p q e h k = rw (same-none e p h, same-none e q k)
 
 -- An edge of no length crosses nothing
 pub crosses-one-point : (q a : Point) → crossesEast q (edge a a) ≡ false

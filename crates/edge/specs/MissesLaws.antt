@@ -1,11 +1,12 @@
--- An edge that misses a rectangle: what the test says of it, and that it misses every rectangle within. Assumes nothing.
+-- An edge that misses a rectangle: what the test says of it, that it misses every rectangle within, and that it has no end
+-- strictly within where it has a length. Assumes nothing.
 use Prim.Native.Nat.{ℕ, _+_, _*_, _≤_, _<_}
 use native.Mathlib.Omega.{arith}
-use mathlib.Core.Path.{_≡_, refl, ap, ap₂}
+use mathlib.Core.Path.{_≡_, refl, ap, ap₂, sym, _∙_}
 use mathlib.Core.Logic.{_⊎_, inl, inr}
-use mathlib.Core.Bool.{Bool, true, false, _&&_, _||_}
-use lib.Dec.{leb, eqb}
-use borrow.Author.Tests.{leb-true, le-leb, eqb-true}
+use mathlib.Core.Bool.{Bool, true, false, not, _&&_, _||_, false≢true}
+use lib.Dec.{leb, ltb, eqb}
+use borrow.Author.Tests.{leb-true, le-leb, ltb-true, eqb-true, eq-eqb}
 use Rattle.facts.specs.Tests.{both, either, either-left, either-right, same-truth}
 use Rattle.ground.specs.declared.Point.{Point}
 use Rattle.ground.specs.declared.Rectangle.{Rectangle}
@@ -13,7 +14,7 @@ use Rattle.ground.specs.Rectangles.{Within, Holds, Ordered, Wide, at}
 use Rattle.ground.specs.RectanglesLaws.{holds-within, wide-ordered}
 use Rattle.side.specs.Side.{leftSum, rightSum, leftOrOn, Leftward}
 use Rattle.edge.specs.Edge.{Edge, edge, noLength, allLeft, beyond, misses}
-use Rattle.facts.specs.Numbers.{product-le, either-way}
+use Rattle.facts.specs.Numbers.{Compared, less, same, more, compared, product-le, product-lt, either-way}
 
 -- Each point of a rectangle is left of the line from a to b, or on it
 abbrev pub LeftOf : Point → Point → Rectangle → Type 0
@@ -213,3 +214,80 @@ pub misses-other-way : (r : Rectangle) → Ordered r → (a b : Point) → misse
 misses-other-way r o a b =
     same-truth (λ t. misses-so (edge b a) r o (missed-back (missed (edge a b) r t)))
     (λ t. misses-so (edge a b) r o (missed-back (missed (edge b a) r t)))
+
+-- A number strictly between two others, and a point strictly within a rectangle
+abbrev pub strictlyBetween : ℕ → ℕ → ℕ → Bool
+strictlyBetween low n high = ltb low n && ltb n high
+
+abbrev pub strictlyWithin : Rectangle → Point → Bool
+strictlyWithin r p = strictlyBetween (r .west .0) (p .lon .0) (r .east .0) && strictlyBetween (r .south .0) (p .lat .0) (r .north .0)
+
+-- The same as a statement
+record Strictly (r : Rectangle) (p : Point) : Type 0 where
+  west : r .west .0 < p .lon .0
+  east : p .lon .0 < r .east .0
+  south : r .south .0 < p .lat .0
+  north : p .lat .0 < r .north .0
+
+-- What the tests say
+amid : (low n high : ℕ) → strictlyBetween low n high ≡ true → (low < n) × (n < high)
+amid low n high t = let ts = both (ltb low n) (ltb n high) t in (ltb-true low n (ts .0), ltb-true n high (ts .1))
+
+strictly : (r : Rectangle) (p : Point) → strictlyWithin r p ≡ true → Strictly r p
+strictly r p t =
+    let ts = both (strictlyBetween (r .west .0) (p .lon .0) (r .east .0)) (strictlyBetween (r .south .0) (p .lat .0) (r .north .0)) t in
+    let across = amid (r .west .0) (p .lon .0) (r .east .0) (ts .0) in
+    let up = amid (r .south .0) (p .lat .0) (r .north .0) (ts .1) in
+    record { west = across .0; east = across .1; south = up .0; north = up .1 }
+
+module _ {r : Rectangle} {p : Point} (h : Strictly r p) (a b : Point) where
+  -- A line through a point strictly within a rectangle, with all of the rectangle on its left, goes nowhere
+  through-level : leftSum a b p ≡ rightSum a b p → LeftOf a b r → a .lat .0 ≡ b .lat .0
+  through-level on l = case (compared (a .lat .0) (b .lat .0))
+    where
+      case : Compared (a .lat .0) (b .lat .0) → a .lat .0 ≡ b .lat .0
+      case (less k) = omega (arith, l (at (p .lat) (r .east)) (omega arith), product-lt k (h .east))
+      case (same k) = k
+      case (more k) = omega (arith, l (at (p .lat) (r .west)) (omega arith), product-lt k (h .west))
+
+  through-upright : leftSum a b p ≡ rightSum a b p → LeftOf a b r → a .lon .0 ≡ b .lon .0
+  through-upright on l = case (compared (a .lon .0) (b .lon .0))
+    where
+      case : Compared (a .lon .0) (b .lon .0) → a .lon .0 ≡ b .lon .0
+      case (less k) = omega (arith, l (at (r .south) (p .lon)) (omega arith), product-lt k (h .south))
+      case (same k) = k
+      case (more k) = omega (arith, l (at (r .north) (p .lon)) (omega arith), product-lt k (h .north))
+
+-- An edge that starts strictly within a rectangle and misses it has no length
+missed-start : {r : Rectangle} {a b : Point} → Strictly r a → Missed (edge a b) r → (a .lat .0 ≡ b .lat .0) × (a .lon .0 ≡ b .lon .0)
+missed-start h (west k l) = absurd (omega arith)
+missed-start h (east k l) = absurd (omega arith)
+missed-start h (south k l) = absurd (omega arith)
+missed-start h (north k l) = absurd (omega arith)
+missed-start {r} {a} {b} h (onLeft l) = (through-level h a b (omega arith) l, through-upright h a b (omega arith) l)
+missed-start {r} {a} {b} h (onRight l) = (sym (through-level h b a (omega arith) l), sym (through-upright h b a (omega arith) l))
+
+-- An edge that has a length, with an end strictly within a rectangle
+abbrev pub endWithin : Edge → Rectangle → Bool
+endWithin e r = (strictlyWithin r (e .start) || strictlyWithin r (e .end)) && not (noLength e)
+
+-- Such an edge meets the rectangle
+pub misses-end : (a b : Point) (r : Rectangle) → endWithin (edge a b) r ≡ true → misses (edge a b) r ≡ false
+misses-end a b r t = at (misses (edge a b) r) refl
+  where
+    ts : ((strictlyWithin r a || strictlyWithin r b) ≡ true) × (not (noLength (edge a b)) ≡ true)
+    ts = both (strictlyWithin r a || strictlyWithin r b) (not (noLength (edge a b))) t
+
+    one : Missed (edge a b) r → (strictlyWithin r a ≡ true) ⊎ (strictlyWithin r b ≡ true) → noLength (edge a b) ≡ true
+    one m (inl h) =
+        let same = missed-start (strictly r a h) m in
+        ap₂ _&&_ (eq-eqb (a .lat .0) (b .lat .0) (same .0)) (eq-eqb (a .lon .0) (b .lon .0) (same .1))
+    one m (inr h) =
+        let same = missed-start (strictly r b h) (missed-back m) in
+        ap₂ _&&_ (eq-eqb (a .lat .0) (b .lat .0) (sym (same .0))) (eq-eqb (a .lon .0) (b .lon .0) (sym (same .1)))
+
+    at : (i : Bool) → misses (edge a b) r ≡ i → misses (edge a b) r ≡ false
+    at true m =
+        absurd
+        (false≢true (sym (ap not (one (missed (edge a b) r m) (either (strictlyWithin r a) (strictlyWithin r b) (ts .0)))) ∙ ts .1))
+    at false m = m

@@ -1,13 +1,14 @@
 // An edge beside a rectangle and beside a point. Comparisons come first, products only where these
 // leave it open.
 ghost use mathlib.Core.Path.{_≡_};
-ghost use mathlib.Core.Bool.{cond, _&&_, _||_};
+ghost use mathlib.Core.Bool.{cond, not, _&&_, _||_};
 ghost use lib.Dec.{leb};
 ghost use Rattle.facts.specs.Tests.{differ};
 ghost use Rattle.ground.specs.Rectangles.{Ordered};
 ghost use Rattle.side.specs.Side.{left as Side·left};
-ghost use Rattle.edge.specs.Edge.{edge, beyond as Edge·beyond, allLeft, misses as Edge·misses, crossesEast, low, between as Edge·between, turns as Edge·turns};
+ghost use Rattle.edge.specs.Edge.{edge, noLength, beyond as Edge·beyond, allLeft, misses as Edge·misses, crossesEast, low, between as Edge·between, turns as Edge·turns};
 ghost use Rattle.edge.specs.Extreme.{extremeLat, extremeLon};
+ghost use Rattle.edge.specs.MissesLaws.{strictlyBetween, strictlyWithin, endWithin};
 use ground::Lat;
 use ground::Lon;
 use ground::Point;
@@ -19,6 +20,20 @@ fn both_most(a: u32, b: u32, c: u32, d: u32) -> bool
     ensures { λ r. ⌜ r ≡ (leb a b && leb c d) ⌝ }
 {
     a <= b && c <= d
+}
+
+// Whether two numbers are both at most a third: the greater tells.
+fn most(a: u32, b: u32, third: u32) -> bool
+    ensures { λ r. ⌜ r ≡ (leb a third && leb b third) ⌝ }
+{
+    ground::greater(a, b) <= third
+}
+
+// Whether they are both at least a third: the lesser tells.
+fn least(a: u32, b: u32, third: u32) -> bool
+    ensures { λ r. ⌜ r ≡ (leb third a && leb third b) ⌝ }
+{
+    third <= ground::lesser(a, b)
 }
 
 // Whether both ends of an edge are beyond one side of a rectangle.
@@ -33,16 +48,16 @@ pub fn beyond(a: Point, b: Point, r: Rectangle) -> bool
     let east = r.east;
     let south = r.south;
     let north = r.north;
-    if ground::greater(a_lon.0, b_lon.0) <= west.0 {
+    if most(a_lon.0, b_lon.0, west.0) {
         return true;
     }
-    if east.0 <= ground::lesser(a_lon.0, b_lon.0) {
+    if least(a_lon.0, b_lon.0, east.0) {
         return true;
     }
-    if ground::greater(a_lat.0, b_lat.0) <= south.0 {
+    if most(a_lat.0, b_lat.0, south.0) {
         return true;
     }
-    north.0 <= ground::lesser(a_lat.0, b_lat.0)
+    least(a_lat.0, b_lat.0, north.0)
 }
 
 // The latitude of the corner that is furthest right of the line from a to b.
@@ -119,11 +134,56 @@ pub fn aside(a: Point, b: Point, r: Rectangle) -> bool
     each_left(a, b, r) || each_left(b, a, r)
 }
 
-// Whether an edge misses the open inside of a rectangle, for all points and rectangles.
+// Whether a number is strictly between two others.
+fn strictly_between(low: u32, n: u32, high: u32) -> bool
+    ensures { λ m. ⌜ m ≡ strictlyBetween low n high ⌝ }
+{
+    low < n && n < high
+}
+
+// Whether a point lies strictly within a rectangle.
+fn strictly_within(p: Point, r: Rectangle) -> bool
+    ensures { λ m. ⌜ m ≡ strictlyWithin r p ⌝ }
+{
+    let lat = p.lat;
+    let lon = p.lon;
+    let west = r.west;
+    let east = r.east;
+    let south = r.south;
+    let north = r.north;
+    strictly_between(west.0, lon.0, east.0) && strictly_between(south.0, lat.0, north.0)
+}
+
+// Whether the ends of an edge are two points.
+fn has_length(a: Point, b: Point) -> bool
+    ensures { λ m. ⌜ m ≡ not (noLength (edge a b)) ⌝ }
+{
+    let a_lat = a.lat;
+    let a_lon = a.lon;
+    let b_lat = b.lat;
+    let b_lon = b.lon;
+    a_lat.0 != b_lat.0 || a_lon.0 != b_lon.0
+}
+
+// Whether an edge that has a length has an end strictly within a rectangle.
+pub fn end_within(a: Point, b: Point, r: Rectangle) -> bool
+    ensures { λ m. ⌜ m ≡ endWithin (edge a b) r ⌝ }
+{
+    (strictly_within(a, r) || strictly_within(b, r)) && has_length(a, b)
+}
+
+// Whether an edge misses the open inside of a rectangle, for all points and rectangles. One that has a
+// length and an end strictly within meets it, and needs no product.
 pub fn misses(a: Point, b: Point, r: Rectangle) -> bool
     ensures { λ m. ⌜ m ≡ Edge·misses (edge a b) r ⌝ }
 {
-    beyond(a, b, r) || aside(a, b, r)
+    if beyond(a, b, r) {
+        return true;
+    }
+    if end_within(a, b, r) {
+        return false;
+    }
+    aside(a, b, r)
 }
 
 // Whether exactly one end of an edge is at or below a point's latitude.
@@ -156,19 +216,9 @@ pub fn crosses_east(p: Point, a: Point, b: Point) -> bool
     straddles(p, a, b) && passes_east(p, a, b)
 }
 
-// Whether a corner at or beyond an east side is at or below the latitude of one of two points alone.
-fn between(p: Point, q: Point, east: Lon, v: Point) -> bool
-    ensures { λ m. ⌜ m ≡ Edge·between east p q v ⌝ }
-{
-    let at = v.lon;
-    let height = v.lat;
-    let p_lat = p.lat;
-    let q_lat = q.lat;
-    east.0 <= at.0 && (height.0 <= p_lat.0) != (height.0 <= q_lat.0)
-}
-
 // Whether a corner is at or below the latitude of one of two points alone.
 fn parted(p: Point, q: Point, v: Point) -> bool
+    ensures { λ m. ⌜ m ≡ differ (low v p) (low v q) ⌝ }
 {
     let height = v.lat;
     let p_lat = p.lat;
@@ -176,7 +226,24 @@ fn parted(p: Point, q: Point, v: Point) -> bool
     (height.0 <= p_lat.0) != (height.0 <= q_lat.0)
 }
 
-// Whether an edge turns the count from odd to even, or back, between two points west of an east side.
+// Whether a corner is at or beyond an east side.
+fn past_east(east: Lon, v: Point) -> bool
+    ensures { λ m. ⌜ m ≡ leb (east .0) (v .lon .0) ⌝ }
+{
+    let at = v.lon;
+    east.0 <= at.0
+}
+
+// Whether a corner at or beyond an east side is at or below the latitude of one of two points alone.
+fn between(p: Point, q: Point, east: Lon, v: Point) -> bool
+    ensures { λ m. ⌜ m ≡ Edge·between east p q v ⌝ }
+{
+    past_east(east, v) && parted(p, q, v)
+}
+
+// Whether an edge turns the count from odd to even, or back, between two points west of an east side. Most
+// edges have both ends on one side of each latitude, and cross nothing: the ends alone turn the count, where
+// they are parted by the latitudes, and one of them alone is beyond the east side.
 pub fn turns(p: Point, q: Point, east: Lon, a: Point, b: Point) -> bool
     ensures { λ m. ⌜ m ≡ Edge·turns east p q (edge a b) ⌝ }
 {
@@ -184,32 +251,5 @@ pub fn turns(p: Point, q: Point, east: Lon, a: Point, b: Point) -> bool
         let ends = between(p, q, east, a) != between(p, q, east, b);
         return (crosses_east(p, a, b) != crosses_east(q, a, b)) != ends;
     }
-    let a_lon = a.lon;
-    let b_lon = b.lon;
-    parted(p, q, a) && (east.0 <= a_lon.0) != (east.0 <= b_lon.0)
-}
-
-// Whether an edge of some length has an end strictly within a rectangle.
-pub fn ends_within(a: Point, b: Point, r: Rectangle) -> bool
-{
-    (within(a, r) || within(b, r)) && !one_point(a,b)
-}
-
-fn one_point(a: Point, b: Point) -> bool
-{
-    let a_lat = a.lat;
-    let a_lon = a.lon;
-    let b_lat = b.lat;
-    let b_lon = b.lon;
-    a_lat.0 == b_lat.0 && a_lon.0 == b_lon.0
-}
-
-fn within(p: Point, r: Rectangle) -> bool {
-    let lat = p.lat;
-    let lon = p.lon;
-    let west = r.west;
-    let east = r.east;
-    let south = r.south;
-    let north = r.north;
-    west.0 < lon.0 && lon.0 < east.0 && south.0 < lat.0 && lat.0 < north.0
+    parted(p, q, a) && past_east(east, a) != past_east(east, b)
 }

@@ -12,28 +12,44 @@ use Rattle.ground.specs.Cells.{IsCell}
 use Rattle.ground.specs.Halves.{Span, Ground, narrowest}
 use Rattle.edge.specs.Edge.{Edge}
 use Rattle.boundary.specs.Boundary.{inside}
+use Rattle.chosen.specs.declared.Choice.{Choice}
 use Rattle.chosen.specs.Chosen.{Over}
 use Rattle.quick.specs.declared.half.Half.{Half}
+use Rattle.quick.specs.declared.half.Sought.{Sought}
 use Rattle.quick.specs.Half.{Sound}
+use Rattle.quick.specs.First.{Past}
 
--- A descent for the levels up to a finest one, with so many halvings left, latitude first: the half's ground is a cell's of the level that
--- they lead down from
-pub record ByLat (es : List Edge) (room : List ℕ) (half : Half) (r : Rectangle) (finest left : ℕ) : Type 0 where
+-- No cell of a level before one is inside
+pub record NoneInside (es : List Edge) (level : ℕ) : Type 0 where
+  pub coarsest : coarsestLevel ≤ level
+  pub finest : level ≤ finestLevel + 1
+  pub none : (d : Cell) → IsCell d → inside es d ≡ true → d .level < level → ⊥
+
+-- What is sought is so: no cell of a coarser level is inside, and none of the finest is narrower than told
+pub record Seeks (es : List Edge) (s : Sought) : Type 0 where
+  pub over : Over (s .extents) es
+  pub none : NoneInside es (s .coarsest)
+  pub most : s .finest ≤ finestLevel
+  pub least : s .least ≡ narrowest (s .finest)
+
+-- A descent with so many halvings left, latitude first: the half's ground is a cell's of the level that they lead down from, and past what is
+-- found
+pub record ByLat (es : List Edge) (room : List ℕ) (half : Half) (s : Sought) (left : ℕ) (found : Choice) : Type 0 where
   pub sound : Sound es room half
-  pub over : Over r es
+  pub seeks : Seeks es s
   pub even : left % 2 ≡ 0
-  pub coarsest : coarsestLevel + left / 2 ≤ finest
-  pub most : finest ≤ finestLevel
-  pub ground : Ground (finest - left / 2) (finest - left / 2) (half .ground)
+  pub coarsest : coarsestLevel + left / 2 ≤ s .finest
+  pub ground : Ground (s .finest - left / 2) (s .finest - left / 2) (half .ground)
+  pub past : Past found (half .ground)
 
 -- longitude first: latitude has been halved already
-pub record ByLon (es : List Edge) (room : List ℕ) (half : Half) (r : Rectangle) (finest left : ℕ) : Type 0 where
+pub record ByLon (es : List Edge) (room : List ℕ) (half : Half) (s : Sought) (left : ℕ) (found : Choice) : Type 0 where
   pub sound : Sound es room half
-  pub over : Over r es
+  pub seeks : Seeks es s
   pub odd : left % 2 ≡ 1
-  pub coarsest : coarsestLevel + left / 2 + 1 ≤ finest
-  pub most : finest ≤ finestLevel
-  pub ground : Ground (finest - left / 2) (finest - left / 2 - 1) (half .ground)
+  pub coarsest : coarsestLevel + left / 2 + 1 ≤ s .finest
+  pub ground : Ground (s .finest - left / 2) (s .finest - left / 2 - 1) (half .ground)
+  pub past : Past found (half .ground)
 
 -- A finest level, and one to start from that is not finer
 pub record Levels (finest top : ℕ) : Type 0 where
@@ -62,9 +78,3 @@ tooWide r level =
 -- and so for each level before one
 abbrev pub TooWideBefore : Rectangle → ℕ → Type 0
 TooWideBefore r level = (n : ℕ) → n < level → coarsestLevel ≤ n → tooWide r n ≡ true
-
--- No cell of a level before one is inside
-pub record NoneInside (es : List Edge) (level : ℕ) : Type 0 where
-  pub coarsest : coarsestLevel ≤ level
-  pub finest : level ≤ finestLevel + 1
-  pub none : (d : Cell) → IsCell d → inside es d ≡ true → d .level < level → ⊥

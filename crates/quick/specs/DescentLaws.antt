@@ -39,7 +39,7 @@ module _ (es : List Edge) {level : ℕ} {r : Rectangle} (l : IsLevel level) (g :
   ground-cell =
       λ i. record { west = r .west; east = record { 0 = sym (g .lon .high) i }; south = r .south; north = record { 0 = sym (g .lat .high) i } }
 
-  cell-cell : IsCell (cellOf level r)
+  pub cell-cell : IsCell (cellOf level r)
   unfolding sidesOf
   cell-cell =
       record {
@@ -75,234 +75,253 @@ module _ (es : List Edge) {level : ℕ} {r : Rectangle} (l : IsLevel level) (g :
       λ i. record { level = of i; west = record { 0 = west i }; south = record { 0 = south i } }
 
   -- What the boundary says of the ground it says of the cell
-  cell-inside : {t : Bool} → groundInside es r ≡ t → inside es (cellOf level r) ≡ t
+  pub cell-inside : {t : Bool} → groundInside es r ≡ t → inside es (cellOf level r) ≡ t
   cell-inside e = ap (groundInside es) ground-cell ∙ e
 
-  -- So the answer for it is the cell, if it is inside
-  pub best-cell : groundInside es r ≡ true → Best es level level r (At (cellOf level r))
-  unfolding sidesOf
-  best-cell e = (
-    record { cell = cell-cell; least = omega arith; most = omega arith; is = cell-inside e; lies = subst (λ (x : Rectangle). Within x r) (sym ground-cell) (omega arith) },
-    λ d w l. not-before d w l,
-  )
-    where
-      not-before : (d : Cell) → Wanted es level level r d → Before d (cellOf level r) → ⊥
-      not-before d w (inl k) = omega (arith, w .least)
-      not-before d w (inr (e, inl k)) = omega (arith, w .lies .west)
-      not-before d w (inr (e, inr (k, m))) = omega (arith, w .lies .south)
+  -- Where an edge meets the ground, the level has none there
+  pub no-cell : unmet r es ≡ false → (d : Cell) → Wanted es level level r d → ⊥
+  no-cell e d w = true≢false (sym (w .is) ∙ ap (inside es) (only-cell d w) ∙ cell-inside (met-inside es r e))
 
-  pub best-no-cell : groundInside es r ≡ false → Best es level level r Nowhere
-  best-no-cell e d w = true≢false (sym (w .is) ∙ ap (inside es) (only-cell d w) ∙ cell-inside e)
+-- Where what is sought is settled, what was found stays
+pub settled-first : {es : List Edge} {s : Sought} {r : Rectangle} {from : ℕ} {found : Choice} → Seeks es s → Past found r
+    → settledAt found (r .west) (max from (s .coarsest)) (s .finest) ≡ true → First es from (s .finest) r found found
+settled-first {es} {s} {r} {from} {found} seeks past t =
+    first-stays (λ d w h. settled-none found t past d w (least d w (either-way (s .coarsest) (d .level))) h)
+  where
+    least : (d : Cell) → Wanted es from (s .finest) r d → (s .coarsest ≤ d .level) ⊎ (d .level < s .coarsest) → max from (s .coarsest) ≤ d .level
+    least d w (inl h) = omega (arith, w .least)
+    least d w (inr h) = absurd (seeks .none .none d (w .cell) (w .is) h)
 
--- Fewer halvings are left to a coarser level that is not passed yet
-lon-fewer : {es : List Edge} {room : List ℕ} {half : Half} {r : Rectangle} {finest left limit : ℕ} → ByLon es room half r finest left
-    → (finest - left / 2 ≤ limit) × (limit ≤ finest) → ByLon es room half r limit (left - 2 * (finest - limit))
-lon-fewer {half = half} {finest = finest} {left} {limit} b h =
-    let same : finest - left / 2 ≡ limit - (left - 2 * (finest - limit)) / 2 = omega (arith, b .coarsest) in
-    record {
-      sound = b .sound;
-      over = b .over;
-      odd = omega (arith, b .odd, b .coarsest);
-      coarsest = omega (arith, b .coarsest);
-      most = omega (arith, b .most);
-      ground = subst (λ (n : ℕ). Ground n (n - 1) (half .ground)) same (b .ground);
-    }
+-- and so over ground that holds no wanted cell
+pub passed-first : {es : List Edge} {from finest : ℕ} {g : Rectangle} {found : Choice} → HoldsNone es finest g → First es from finest g found found
+passed-first h = first-stays (λ d w k. h d (w .cell) (w .most) (w .is) (w .lies))
 
-lat-fewer : {es : List Edge} {room : List ℕ} {half : Half} {r : Rectangle} {finest left limit : ℕ} → ByLat es room half r finest left
-    → (finest - left / 2 ≤ limit) × (limit ≤ finest) → ByLat es room half r limit (left - 2 * (finest - limit))
-lat-fewer {half = half} {finest = finest} {left} {limit} b h =
-    let same : finest - left / 2 ≡ limit - (left - 2 * (finest - limit)) / 2 = omega (arith, b .coarsest) in
-    record {
-      sound = b .sound;
-      over = b .over;
-      even = omega (arith, b .even, b .coarsest);
-      coarsest = omega (arith, b .coarsest);
-      most = omega (arith, b .most);
-      ground = subst (λ (n : ℕ). Ground n n (half .ground)) same (b .ground);
-    }
+module _ {es : List Edge} {room : List ℕ} {half : Half} {s : Sought} {left : ℕ} {found : Choice} (b : ByLat es room half s left found) where
+  -- The level of halvings that are left is one of the levels
+  lat-level : IsLevel (s .finest - left / 2)
+  lat-level = omega (arith, b .coarsest, b .seeks .most)
 
--- Ground that holds no wanted cell
-pub none-best : {es : List Edge} {from finest : ℕ} {g : Rectangle} → HoldsNone es finest g → Best es from finest g Nowhere
-none-best h d w = h d (w .cell) (w .most) (w .is) (w .lies)
-
--- The level of halvings that are left is one of the levels
-pub lat-level : {es : List Edge} {room : List ℕ} {half : Half} {r : Rectangle} {finest left : ℕ} → ByLat es room half r finest left
-    → IsLevel (finest - left / 2)
-lat-level b = omega (arith, b .coarsest, b .most)
-
-pub lat-finest : {es : List Edge} {room : List ℕ} {half : Half} {r : Rectangle} {finest left : ℕ} → ByLat es room half r finest left → IsLevel finest
-lat-finest b = omega (arith, b .coarsest, b .most)
-
-pub lon-finest : {es : List Edge} {room : List ℕ} {half : Half} {r : Rectangle} {finest left : ℕ} → ByLon es room half r finest left → IsLevel finest
-lon-finest b = omega (arith, b .coarsest, b .most)
-
-module _ {es : List Edge} {room : List ℕ} {half : Half} {r : Rectangle} {finest left : ℕ} (b : ByLat es room half r finest left) where
   -- Ground that is inside is the answer
-  pub lat-inside : groundInside es (half .ground) ≡ true → Best es (finest - left / 2) finest (half .ground) (At (cellOf (finest - left / 2) (half .ground)))
-  lat-inside e = best-here finest (omega arith) (best-cell es (lat-level b) (b .ground) e)
+  pub lat-inside : groundInside es (half .ground) ≡ true
+      → settledAt found (half .ground .west) (max (s .finest - left / 2) (s .coarsest)) (s .finest) ≡ false
+      → First es (s .finest - left / 2) (s .finest) (half .ground) found (At (cellOf (s .finest - left / 2) (half .ground)))
+  lat-inside e t =
+      first-corner
+      (record {
+        cell = cell-cell es lat-level (b .ground);
+        least = omega arith;
+        most = omega arith;
+        is = cell-inside es lat-level (b .ground) e;
+        lies = subst (λ (x : Rectangle). Within x (half .ground)) (sym (ground-cell es lat-level (b .ground))) (within-self (half .ground));
+      })
+      refl refl refl (unsettled-ahead found (cellOf (s .finest - left / 2) (half .ground)) t (omega arith))
 
-  -- Else there is none of its own level
-  lat-none : groundInside es (half .ground) ≡ false → Best es (finest - left / 2) (finest - left / 2) (half .ground) Nowhere
-  lat-none e = best-no-cell es (lat-level b) (b .ground) e
-
-  -- and none at all where no halvings are left
-  pub lat-end : left ≡ 0 → groundInside es (half .ground) ≡ false → Best es (finest - left / 2) finest (half .ground) Nowhere
+  -- Else there is none where no halvings are left
+  pub lat-end : left ≡ 0 → unmet (half .ground) es ≡ false → First es (s .finest - left / 2) (s .finest) (half .ground) found found
   lat-end none e =
-      let same : finest - left / 2 ≡ finest = omega arith in
-      subst (λ (n : ℕ). Best es (finest - left / 2) n (half .ground) Nowhere) same (lat-none e)
+      let same : s .finest ≡ s .finest - left / 2 = omega arith in
+      first-stays (λ d w h. no-cell es lat-level (b .ground) e d (subst (λ (n : ℕ). Wanted es (s .finest - left / 2) n (half .ground) d) same w))
+
+  -- The same half with other edges
+  pub lat-own : {later : List ℕ} {own : Half} → own .ground ≡ half .ground → Sound es later own → ByLat es later own s left found
+  lat-own e sound =
+      record {
+        sound = sound;
+        seeks = b .seeks;
+        even = b .even;
+        coarsest = b .coarsest;
+        ground = subst (Ground (s .finest - left / 2) (s .finest - left / 2)) (sym e) (b .ground);
+        past = subst (Past found) (sym e) (b .past);
+      }
 
   module _ (some : (left ≡ 0 → ⊥)) where
     -- One halving less is left, and latitude is one level finer
-    finer-lat : finest - left / 2 + 1 ≡ finest - (left - 1) / 2
+    finer-lat : s .finest - left / 2 + 1 ≡ s .finest - (left - 1) / 2
     finer-lat = omega (arith, b .even, b .coarsest)
 
-    same-lon : finest - left / 2 ≡ finest - (left - 1) / 2 - 1
+    same-lon : s .finest - left / 2 ≡ s .finest - (left - 1) / 2 - 1
     same-lon = omega (arith, b .even, b .coarsest)
 
     -- The descent that goes on by longitude
-    lat-on : {later : List ℕ} {h : Half} → Sound es later h → Ground (finest - left / 2 + 1) (finest - left / 2) (h .ground)
-        → ByLon es later h r finest (left - 1)
-    lat-on {later} {h} s g =
+    lat-on : {later : List ℕ} {h : Half} {now : Choice} → Sound es later h → Ground (s .finest - left / 2 + 1) (s .finest - left / 2) (h .ground)
+        → Past now (h .ground) → ByLon es later h s (left - 1) now
+    lat-on {later} {h} sound g past =
         record {
-          sound = s;
-          over = b .over;
+          sound = sound;
+          seeks = b .seeks;
           odd = omega (arith, b .even);
           coarsest = omega (arith, b .even, b .coarsest);
-          most = b .most;
           ground = subst₂ (λ (m n : ℕ). Ground m n (h .ground)) finer-lat same-lon g;
+          past = past;
         }
 
-    -- Ground that is no inside cell itself has the answer of the finer levels
-    pub lat-below : (a : Choice) → groundInside es (half .ground) ≡ false → Best es (finest - (left - 1) / 2) finest (half .ground) a
-        → Best es (finest - left / 2) finest (half .ground) a
-    lat-below a e best =
-        best-below finest (half .ground) a (lat-none e) (subst (λ (n : ℕ). Best es n finest (half .ground) a) (sym finer-lat) best)
+    -- Ground that an edge meets has the answer of the finer levels
+    pub lat-below : (a : Choice) → unmet (half .ground) es ≡ false → First es (s .finest - (left - 1) / 2) (s .finest) (half .ground) found a
+        → First es (s .finest - left / 2) (s .finest) (half .ground) found a
+    lat-below a e first =
+        first-below a (no-cell es lat-level (b .ground) e)
+        (subst (λ (n : ℕ). First es n (s .finest) (half .ground) found a) (sym finer-lat) first)
 
-    module _ {at : Lat} (is : at .0 ≡ splitAt (finest - left / 2 + 1) (half .ground .south .0) (half .ground .north .0)) where
+    module _ {at : Lat} (is : at ≡ latSplit (s .finest - left / 2 + 1) (half .ground)) where
       -- Ground that is not split goes on as it is
-      pub lat-whole : at .0 ≡ half .ground .north .0 → ByLon es room half r finest (left - 1)
+      pub lat-whole : at .0 ≡ half .ground .north .0 → ByLon es room half s (left - 1) found
       lat-whole same =
-          lat-on (b .sound) (lat-unhalved (finest - left / 2) (omega (arith, b .coarsest)) (omega (arith, b .even, b .most)) (b .ground) is same)
+          lat-on (b .sound)
+          (lat-unhalved (s .finest - left / 2) (omega (arith, b .coarsest)) (omega (arith, b .even, b .seeks .most)) (b .ground) (ap (λ y. y .0) is) same)
+          (b .past)
 
       module _ (other : at .0 ≡ half .ground .north .0 → ⊥) where
-        pub lat-split : LatHalves (finest - left / 2) (half .ground) at
-        lat-split = lat-halves (finest - left / 2) (omega (arith, b .coarsest)) (omega (arith, b .even, b .most)) (b .ground) is other
+        lat-split : LatHalves (s .finest - left / 2) (half .ground) at
+        lat-split =
+            lat-halves (s .finest - left / 2) (omega (arith, b .coarsest)) (omega (arith, b .even, b .seeks .most)) (b .ground) (ap (λ y. y .0) is) other
 
-        pub lat-between : Between (half .ground .south .0) (at .0) (half .ground .north .0)
+        lat-between : Between (half .ground .south .0) (at .0) (half .ground .north .0)
         lat-between = record { above = lat-split .low; below = lat-split .high }
 
         -- The south half
-        pub lat-south : {later : List ℕ} {h : Half} → h .ground ≡ southOf (half .ground) at → Sound es later h → ByLon es later h r finest (left - 1)
-        lat-south e s = lat-on s (subst (Ground (finest - left / 2 + 1) (finest - left / 2)) (sym e) (lat-split .south))
+        pub lat-south : ByLon es room (partOf half (southOf (half .ground) at)) s (left - 1) found
+        lat-south =
+            let part = south-part (b .sound) at lat-between in
+            lat-on (sound-part (b .sound) part) (lat-split .south) (past-within found (part .within) (b .past))
 
-        module _ (first : Choice) {limit : ℕ} (low : Best es (finest - (left - 1) / 2) finest (southOf (half .ground) at) first)
-            (up-to : limit ≡ levelOf first finest) where
-          -- North of what is found only levels up to the level of that are left
-          pub lat-limit : (finest - (left - 1) / 2 ≤ limit) × (limit ≤ finest)
-          lat-limit =
-              let between = level-between es (finest - (left - 1) / 2) finest (southOf (half .ground) at) finest first low (omega arith) (omega arith) in
-              (omega (arith, between .0), omega (arith, between .1))
-
-          -- The north half
-          pub lat-north : {later : List ℕ} {h : Half} → h .ground ≡ northOf (half .ground) at → Sound es later h
-              → ByLon es later h r limit (left - 1 - 2 * (finest - limit))
-          lat-north e s = lon-fewer (lat-on s (subst (Ground (finest - left / 2 + 1) (finest - left / 2)) (sym e) (lat-split .north))) lat-limit
+        module _ {later : List ℕ} (kept : Sound es later half) (a : Choice)
+            (first : First es (s .finest - (left - 1) / 2) (s .finest) (southOf (half .ground) at) found a) where
+          -- The north half, past what is found in the south
+          pub lat-north : ByLon es later (partOf half (northOf (half .ground) at)) s (left - 1) a
+          lat-north =
+              let part = north-part (b .sound) at lat-between in
+              lat-on (sound-part kept part) (lat-split .north)
+              (past-first a (inl (omega arith)) first (past-within found (part .within) (b .past)))
 
           -- and the answer for both
-          pub lat-joined : (second : Choice) → groundInside es (half .ground) ≡ false
-              → Best es (limit - (left - 1 - 2 * (finest - limit)) / 2) limit (northOf (half .ground) at) second
-              → Best es (finest - left / 2) finest (half .ground) (earlier first second)
-          lat-joined second e high =
-              let from : limit - (left - 1 - 2 * (finest - limit)) / 2 ≡ finest - (left - 1) / 2 = omega (arith, b .even, b .coarsest, lat-limit) in
-              lat-below (earlier first second) e
-              (best-lat es (finest - (left - 1) / 2) finest (omega (arith, b .coarsest)) (half .ground) at
+          pub lat-joined : (c : Choice) → unmet (half .ground) es ≡ false
+              → First es (s .finest - (left - 1) / 2) (s .finest) (northOf (half .ground) at) a c
+              → First es (s .finest - left / 2) (s .finest) (half .ground) found c
+          lat-joined c e second =
+              lat-below c e
+              (first-lat (omega (arith, b .coarsest)) (half .ground) a c at
               (subst (λ (n : ℕ). lowSide n (at .0) ≡ at .0) finer-lat (lat-split .side))
-              (omega (arith, lat-split .low)) (omega (arith, lat-split .high)) first second low
-              (subst (λ (n : ℕ). Best es (finest - (left - 1) / 2) n (northOf (half .ground) at) second) up-to
-              (subst (λ (n : ℕ). Best es n limit (northOf (half .ground) at) second) from high)))
+              (omega (arith, lat-split .low)) (omega (arith, lat-split .high)) first second)
 
-module _ {es : List Edge} {room : List ℕ} {half : Half} {r : Rectangle} {finest left : ℕ} (b : ByLon es room half r finest left) where
+module _ {es : List Edge} {room : List ℕ} {half : Half} {s : Sought} {left : ℕ} {found : Choice} (b : ByLon es room half s left found) where
   -- One halving less is left, and longitude is one level finer
-  finer-lon : finest - left / 2 - 1 + 1 ≡ finest - left / 2
+  finer-lon : s .finest - left / 2 - 1 + 1 ≡ s .finest - left / 2
   finer-lon = omega (arith, b .coarsest)
 
-  same-lat : finest - left / 2 ≡ finest - (left - 1) / 2
+  same-lat : s .finest - left / 2 ≡ s .finest - (left - 1) / 2
   same-lat = omega (arith, b .odd)
 
-  own : Ground (finest - left / 2 - 1 + 1) (finest - left / 2 - 1) (half .ground)
-  own = subst (λ (n : ℕ). Ground n (finest - left / 2 - 1) (half .ground)) (sym finer-lon) (b .ground)
+  lon-level : IsLevel (s .finest - left / 2)
+  lon-level = omega (arith, b .coarsest, b .seeks .most)
 
-  -- The descent that goes on by latitude
-  lon-on : {later : List ℕ} {h : Half} → Sound es later h → Ground (finest - left / 2 - 1 + 1) (finest - left / 2 - 1 + 1) (h .ground)
-      → ByLat es later h r finest (left - 1)
-  lon-on {later} {h} s g =
+  own : Ground (s .finest - left / 2 - 1 + 1) (s .finest - left / 2 - 1) (half .ground)
+  own = subst (λ (n : ℕ). Ground n (s .finest - left / 2 - 1) (half .ground)) (sym finer-lon) (b .ground)
+
+  -- The same half with another first edge
+  pub lon-own : {later : List ℕ} {h : Half} → h .ground ≡ half .ground → Sound es later h → ByLon es later h s left found
+  lon-own e sound =
       record {
-        sound = s;
-        over = b .over;
-        even = omega (arith, b .odd);
-        coarsest = omega (arith, b .odd, b .coarsest);
-        most = b .most;
-        ground = subst (λ (n : ℕ). Ground n n (h .ground)) (finer-lon ∙ same-lat) g;
+        sound = sound;
+        seeks = b .seeks;
+        odd = b .odd;
+        coarsest = b .coarsest;
+        ground = subst (Ground (s .finest - left / 2) (s .finest - left / 2 - 1)) (sym e) (b .ground);
+        past = subst (Past found) (sym e) (b .past);
       }
 
-  module _ {at : Lon} (is : at .0 ≡ splitAt (finest - left / 2) (half .ground .west .0) (half .ground .east .0)) where
-    is-next : at .0 ≡ splitAt (finest - left / 2 - 1 + 1) (half .ground .west .0) (half .ground .east .0)
-    is-next = is ∙ ap (λ (n : ℕ). splitAt n (half .ground .west .0) (half .ground .east .0)) (sym finer-lon)
+  -- The descent that goes on by latitude
+  lon-on : {later : List ℕ} {h : Half} {now : Choice} → Sound es later h → Ground (s .finest - left / 2 - 1 + 1) (s .finest - left / 2 - 1 + 1) (h .ground)
+      → Past now (h .ground) → ByLat es later h s (left - 1) now
+  lon-on {later} {h} sound g past =
+      record {
+        sound = sound;
+        seeks = b .seeks;
+        even = omega (arith, b .odd);
+        coarsest = omega (arith, b .odd, b .coarsest);
+        ground = subst (λ (n : ℕ). Ground n n (h .ground)) (finer-lon ∙ same-lat) g;
+        past = past;
+      }
+
+  module _ {at : Lon} (is : at ≡ lonSplit (s .finest - left / 2) (half .ground)) where
+    is-next : at .0 ≡ splitAt (s .finest - left / 2 - 1 + 1) (half .ground .west .0) (half .ground .east .0)
+    is-next = ap (λ x. x .0) is ∙ ap (λ (n : ℕ). splitAt n (half .ground .west .0) (half .ground .east .0)) (sym finer-lon)
 
     -- Ground that is not split goes on as it is
-    pub lon-whole : at .0 ≡ half .ground .east .0 → ByLat es room half r finest (left - 1)
-    lon-whole same =
-        lon-on (b .sound)
-        (lon-unhalved (finest - left / 2 - 1) (omega (arith, b .coarsest)) (omega (arith, b .coarsest, b .most)) own is-next same)
+    lon-unsplit : at .0 ≡ half .ground .east .0 → Ground (s .finest - left / 2 - 1 + 1) (s .finest - left / 2 - 1 + 1) (half .ground)
+    lon-unsplit same = lon-unhalved (s .finest - left / 2 - 1) (omega (arith, b .coarsest)) (omega (arith, b .coarsest, b .seeks .most)) own is-next same
 
-    pub lon-same : (a : Choice) → Best es (finest - (left - 1) / 2) finest (half .ground) a → Best es (finest - left / 2) finest (half .ground) a
-    lon-same a best = subst (λ (n : ℕ). Best es n finest (half .ground) a) (sym same-lat) best
+    pub lon-whole : at .0 ≡ half .ground .east .0 → ByLat es room half s (left - 1) found
+    lon-whole same = lon-on (b .sound) (lon-unsplit same) (b .past)
+
+    pub lon-same : (a : Choice) → First es (s .finest - (left - 1) / 2) (s .finest) (half .ground) found a
+        → First es (s .finest - left / 2) (s .finest) (half .ground) found a
+    lon-same a first = subst (λ (n : ℕ). First es n (s .finest) (half .ground) found a) (sym same-lat) first
 
     module _ (other : at .0 ≡ half .ground .east .0 → ⊥) where
-      lon-split : LonHalves (finest - left / 2 - 1) (half .ground) at
-      lon-split = lon-halves (finest - left / 2 - 1) (omega (arith, b .coarsest)) (omega (arith, b .coarsest, b .most)) own is-next other
+      lon-split : LonHalves (s .finest - left / 2 - 1) (half .ground) at
+      lon-split = lon-halves (s .finest - left / 2 - 1) (omega (arith, b .coarsest)) (omega (arith, b .coarsest, b .seeks .most)) own is-next other
 
-      pub lon-between : Between (half .ground .west .0) (at .0) (half .ground .east .0)
+      lon-between : Between (half .ground .west .0) (at .0) (half .ground .east .0)
       lon-between = record { above = lon-split .low; below = lon-split .high }
 
-      side : lowSide (finest - left / 2) (at .0) ≡ at .0
-      side = subst (λ (n : ℕ). lowSide n (at .0) ≡ at .0) finer-lon (lon-split .side)
-
       -- The west half
-      pub lon-west : {later : List ℕ} {h : Half} → h .ground ≡ westOf (half .ground) at → Sound es later h → ByLat es later h r finest (left - 1)
-      lon-west e s = lon-on s (subst (Ground (finest - left / 2 - 1 + 1) (finest - left / 2 - 1 + 1)) (sym e) (lon-split .west))
+      pub lon-west : ByLat es room (partOf half (westOf (half .ground) at)) s (left - 1) found
+      lon-west =
+          let part = west-part (b .sound) at lon-between in
+          lon-on (sound-part (b .sound) part) (lon-split .west) (past-within found (part .within) (b .past))
 
-      module _ (first : Choice) {limit : ℕ} (found : Best es (finest - (left - 1) / 2) finest (westOf (half .ground) at) first)
-          (up-to : limit ≡ levelOf first (finest + 1) - 1) where
-        low : Best es (finest - left / 2) finest (westOf (half .ground) at) first
-        low = subst (λ (n : ℕ). Best es n finest (westOf (half .ground) at) first) (sym same-lat) found
+      module _ {later : List ℕ} (kept : Sound es later half) (a : Choice)
+          (first : First es (s .finest - (left - 1) / 2) (s .finest) (westOf (half .ground) at) found a) where
+        -- The east half, past what is found in the west
+        pub lon-east : ByLat es later (partOf half (eastOf (half .ground) at)) s (left - 1) a
+        lon-east =
+            let part = east-part (b .sound) at lon-between in
+            lon-on (sound-part kept part) (lon-split .east)
+            (past-first a (inr (omega arith)) first (past-within found (part .within) (b .past)))
 
-        -- East of what is found only levels before the level of that are left
-        pub lon-limit : (1 ≤ levelOf first (finest + 1)) × (limit ≤ finest)
-        lon-limit =
-            let between = level-between es (finest - left / 2) finest (westOf (half .ground) at) (finest + 1) first low (omega arith) (omega arith) in
-            (omega (arith, between .0, b .coarsest), omega (arith, between .1))
+        -- and the answer for both
+        pub lon-joined : (c : Choice) → First es (s .finest - (left - 1) / 2) (s .finest) (eastOf (half .ground) at) a c
+            → First es (s .finest - left / 2) (s .finest) (half .ground) found c
+        lon-joined c second =
+            lon-same c
+            (first-lon (omega (arith, b .coarsest)) (half .ground) a c at
+            (subst (λ (n : ℕ). lowSide n (at .0) ≡ at .0) (finer-lon ∙ same-lat) (lon-split .side))
+            (omega (arith, lon-split .low)) (omega (arith, lon-split .high)) first second)
 
-        -- The western half alone tells, where nothing coarser is left
-        pub lon-stopped : limit < finest - left / 2 → Best es (finest - left / 2) finest (half .ground) first
-        lon-stopped less =
-            best-west es (finest - left / 2) finest (omega (arith, b .coarsest)) (half .ground) at side
-            (omega (arith, lon-split .low)) (omega (arith, lon-split .high)) first low (omega arith)
+  -- The part of ground that is inside where a cell of the next level stands
+  lon-corner : (p : Rectangle) → Ground (s .finest - left / 2 - 1 + 1) (s .finest - left / 2 - 1 + 1) p → Within p (half .ground)
+      → p .west ≡ half .ground .west → p .south ≡ half .ground .south → groundInside es (half .ground) ≡ true
+      → settledAt found (half .ground .west) (max (s .finest - left / 2) (s .coarsest)) (s .finest) ≡ false
+      → First es (s .finest - left / 2) (s .finest) (half .ground) found (At (cellOf (s .finest - left / 2) (half .ground)))
+  lon-corner p g within west south e t =
+      let own : Ground (s .finest - left / 2) (s .finest - left / 2) p = subst (λ (n : ℕ). Ground n n p) finer-lon g in
+      let c : Cell = cellOf (s .finest - left / 2) p in
+      let same : c ≡ cellOf (s .finest - left / 2) (half .ground) = λ i. record { level = s .finest - left / 2; west = west i; south = south i } in
+      let sides = ground-cell es lon-level own in
+      let is = cell-cell es lon-level own in
+      let wide = subst Wide sides (cell-wide c lon-level) in
+      subst (λ (x : Cell). First es (s .finest - left / 2) (s .finest) (half .ground) found (At x)) same
+      (first-corner
+      (record {
+        cell = is;
+        least = omega arith;
+        most = omega arith;
+        is = cell-inside es lon-level own (inside-part (b .sound .closed) wide within e);
+        lies = subst (λ (x : Rectangle). Within x (half .ground)) (sym sides) within;
+      })
+      refl (ap (λ x. x .0) west) (ap (λ y. y .0) south)
+      (unsettled-ahead found c (subst (λ (x : Lon). settledAt found x (max (s .finest - left / 2) (s .coarsest)) (s .finest) ≡ false) (sym west) t) (omega arith)))
 
-        module _ (least : finest - left / 2 ≤ limit) where
-          -- The east half
-          pub lon-east : {later : List ℕ} {h : Half} → h .ground ≡ eastOf (half .ground) at → Sound es later h
-              → ByLat es later h r limit (left - 1 - 2 * (finest - limit))
-          lon-east e s =
-              lat-fewer (lon-on s (subst (Ground (finest - left / 2 - 1 + 1) (finest - left / 2 - 1 + 1)) (sym e) (lon-split .east)))
-              (omega (arith, b .odd), lon-limit .1)
-
-          -- and the answer for both
-          pub lon-joined : (second : Choice) → Best es (limit - (left - 1 - 2 * (finest - limit)) / 2) limit (eastOf (half .ground) at) second
-              → Best es (finest - left / 2) finest (half .ground) (earlier first second)
-          lon-joined second high =
-              let from : limit - (left - 1 - 2 * (finest - limit)) / 2 ≡ finest - left / 2 = omega (arith, b .odd, b .coarsest, lon-limit .1) in
-              best-lon es (finest - left / 2) finest (omega (arith, b .coarsest)) (half .ground) at side
-              (omega (arith, lon-split .low)) (omega (arith, lon-split .high)) first second low
-              (subst (λ (n : ℕ). Best es (finest - left / 2) n (eastOf (half .ground) at) second) up-to
-              (subst (λ (n : ℕ). Best es n limit (eastOf (half .ground) at) second) from high))
+  -- Ground that is inside has the answer in its south-west corner
+  pub lon-inside : groundInside es (half .ground) ≡ true
+      → settledAt found (half .ground .west) (max (s .finest - left / 2) (s .coarsest)) (s .finest) ≡ false
+      → First es (s .finest - left / 2) (s .finest) (half .ground) found (At (cellOf (s .finest - left / 2) (half .ground)))
+  lon-inside e t = at (eq-or-ne (lonSplit (s .finest - left / 2) (half .ground) .0) (half .ground .east .0))
+    where
+      at : (lonSplit (s .finest - left / 2) (half .ground) .0 ≡ half .ground .east .0)
+          ⊎ (lonSplit (s .finest - left / 2) (half .ground) .0 ≡ half .ground .east .0 → ⊥)
+          → First es (s .finest - left / 2) (s .finest) (half .ground) found (At (cellOf (s .finest - left / 2) (half .ground)))
+      at (inl same) = lon-corner (half .ground) (lon-unsplit refl same) (within-self (half .ground)) refl refl e t
+      at (inr other) =
+          let west = westOf (half .ground) (lonSplit (s .finest - left / 2) (half .ground)) in
+          lon-corner west (lon-split refl other .west) (west-part (b .sound) (lonSplit (s .finest - left / 2) (half .ground)) (lon-between refl other) .within) refl refl e t

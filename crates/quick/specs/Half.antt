@@ -2,8 +2,8 @@
 -- nothing.
 use Prim.Native.Nat.{ℕ, _+_, _-_, _*_, _/_, _≤_, _<_, min, max}
 use mathlib.Core.Path.{_≡_}
-use mathlib.Core.Bool.{Bool, true, false, not, _&&_, _||_}
-use mathlib.Core.List.{List, map}
+use mathlib.Core.Bool.{Bool, true, false, cond, not, _&&_, _||_}
+use mathlib.Core.List.{List, [], _∷_, map}
 use lib.Dec.{ltb}
 use lib.ListN.{length}
 use Rattle.facts.specs.Lists.{countUp}
@@ -12,11 +12,11 @@ use Rattle.ground.specs.declared.Cell.{Cell}
 use Rattle.ground.specs.Rectangles.{Within, Lies, Wide, centreOf}
 use Rattle.ground.specs.Cells.{sidesOf, IsCell}
 use Rattle.ground.specs.Halves.{narrowest}
-use Rattle.edge.specs.Edge.{Edge}
+use Rattle.edge.specs.Edge.{Edge, beyond, misses}
 use Rattle.boundary.specs.Boundary.{pointInside, unmet, groundInside, inside}
 use Rattle.boundary.specs.Closed.{Closed}
 use Rattle.boundary.specs.Keeps.{Keeps}
-use Rattle.boundary.specs.Listed.{edgesIn, edgeIn}
+use Rattle.boundary.specs.Listed.{edgeIn}
 use Rattle.quick.specs.declared.half.Half.{Half}
 use Rattle.quick.specs.declared.passing.Tested.{Tested}
 use Rattle.quick.specs.declared.passing.Tested.the-variants.{PassedOver, Inside, Met}
@@ -29,13 +29,35 @@ keptIn room from to = map (edgeIn room) (countUp (to - from) from)
 abbrev pub Same : ℕ → List ℕ → List ℕ → Type 0
 Same to room later = (j : ℕ) → j < to → edgeIn later j ≡ edgeIn room j
 
+-- Of some edges those that meet a rectangle
+abbrev pub meeting : Rectangle → List Edge → List Edge
+meeting r [] = []
+meeting r (e ∷ es) = cond (misses e r) (meeting r es) (e ∷ meeting r es)
+
+-- The edges from one place to before another miss a rectangle
+abbrev pub MissedTo : List ℕ → Rectangle → ℕ → ℕ → Type 0
+MissedTo room r from to = (j : ℕ) → from ≤ j → j < to → misses (edgeIn room j) r ≡ true
+
+-- The place of the first of the edges between two places that is not beyond a side of a rectangle, or one past them
+pub record NearFirst (room : List ℕ) (r : Rectangle) (from to place : ℕ) : Type 0 where
+  pub least : from ≤ place
+  pub missed : MissedTo room r from place
+  pub near : place < to → beyond (edgeIn room place) r ≡ false
+
+-- and of the first that meets it
+pub record MetFirst (room : List ℕ) (r : Rectangle) (from to place : ℕ) : Type 0 where
+  pub least : from ≤ place
+  pub missed : MissedTo room r from place
+  pub met : place < to → misses (edgeIn room place) r ≡ false
+
 -- Edges in a room that are kept for some ground
 pub record KeptFor (es : List Edge) (room : List ℕ) (around : Rectangle) (from to : ℕ) : Type 0 where
   pub keeps : Keeps es around (keptIn room from to)
   pub first : from ≤ to
   pub last : 4 * to ≤ length room
 
--- What is known of a half is so: its edges are those kept for ground around it, in which the corner lies whose count is known
+-- What is known of a half is so: its edges are those kept for ground around it, in which the corner lies whose count is known, and those from
+-- the first on are kept for the half itself
 pub record Sound (es : List Edge) (room : List ℕ) (h : Half) : Type 0 where
   pub closed : Closed es
   pub wide : Wide (h .ground)
@@ -44,7 +66,16 @@ pub record Sound (es : List Edge) (room : List ℕ) (h : Half) : Type 0 where
   pub lies : Lies around (h .corner)
   pub east : h .east ≡ around .east
   pub kept : KeptFor es room around (h .from) (h .to)
+  pub asked : Keeps es (h .ground) (keptIn room (h .first) (h .to))
   pub odd : h .odd ≡ pointInside (h .corner) es
+
+-- A half with part of its ground
+abbrev pub partOf : Half → Rectangle → Half
+partOf h part = record { ground = part; corner = h .corner; odd = h .odd; east = h .east; from = h .from; first = h .first; to = h .to }
+
+-- A half with another first edge
+abbrev pub startingAt : Half → ℕ → Half
+startingAt h first = record { ground = h .ground; corner = h .corner; odd = h .odd; east = h .east; from = h .from; first = first; to = h .to }
 
 -- A part of a half's ground
 pub record Part (h : Half) (part : Rectangle) : Type 0 where
@@ -56,10 +87,10 @@ pub record Between (low middle high : ℕ) : Type 0 where
   pub above : low < middle
   pub below : middle < high
 
--- All edges of a list stand in a room from its start
-pub record AllIn (edges room : List ℕ) : Type 0 where
-  pub fits : 4 * (length edges / 4) ≤ length room
-  pub all : (j : ℕ) → j < length edges / 4 → edgeIn room j ≡ edgeIn edges j
+-- The edges of a list stand in a room from its start, so many
+pub record AllIn (es : List Edge) (room : List ℕ) (count : ℕ) : Type 0 where
+  pub fits : 4 * count ≤ length room
+  pub all : keptIn room 0 count ≡ es
 
 -- How much of an extent lies between two sides
 abbrev pub common : ℕ → ℕ → ℕ → ℕ → ℕ
@@ -85,8 +116,8 @@ yes PassedOver = true
 yes Inside = false
 yes Met = false
 
--- Where it does not, it says whether the ground is inside
-abbrev pub Else : List Edge → Rectangle → Tested → Type 0
-Else es g PassedOver = Unit {0}
-Else es g Inside = groundInside es g ≡ true
-Else es g Met = groundInside es g ≡ false
+-- Where it does not, it says whether the ground is inside, or where the first edge that meets it stands
+abbrev pub Else : List Edge → List ℕ → Half → Tested → Type 0
+Else es room h PassedOver = Unit {0}
+Else es room h Inside = groundInside es (h .ground) ≡ true
+Else es room h (Met place) = (place < h .to) × MetFirst room (h .ground) (h .first) (h .to) place

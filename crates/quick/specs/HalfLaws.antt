@@ -5,10 +5,10 @@ use native.Mathlib.Numerals.{add-one}
 use native.Mathlib.Omega.{arith}
 use mathlib.Core.Path.{_≡_, refl, ap, ap₂, _∙_, sym, subst}
 use mathlib.Core.Logic.{_⊎_, inl, inr}
-use mathlib.Core.Bool.{Bool, true, false, not, _&&_, Bool·beq}
+use mathlib.Core.Bool.{Bool, true, false, cond, not, _&&_, Bool·beq}
 use mathlib.Core.List.{List, [], _∷_, _++_, map, append-nil, append-assoc, map-append}
-use lib.ListN.{length, drop, drop-of-length-le}
-use borrow.Author.Tests.{not-true, not-false}
+use lib.ListN.{length, getD, take, drop, drop-of-length-le}
+use lib.Seq.{length-take-le, getD-take}
 use Rattle.facts.specs.Tests.{differ, differ-comm, unlike}
 use Rattle.facts.specs.Numbers.{either-way}
 use Rattle.facts.specs.Lists.{countUp}
@@ -16,17 +16,18 @@ use Rattle.ground.specs.declared.Lat.{Lat}
 use Rattle.ground.specs.declared.Lon.{Lon}
 use Rattle.ground.specs.declared.Point.{Point}
 use Rattle.ground.specs.declared.Rectangle.{Rectangle}
-use Rattle.ground.specs.Rectangles.{Within, Lies, Wide, southWest, southOf, northOf, westOf, eastOf}
+use Rattle.ground.specs.Levels.{lat, lon}
+use Rattle.ground.specs.Rectangles.{at, Within, Lies, Wide, southWest, southOf, northOf, westOf, eastOf}
 use Rattle.ground.specs.RectanglesLaws.{wide-ordered, within-self, within-then, lies-within, corner-lies}
-use Rattle.edge.specs.Edge.{Edge, misses, turns}
+use Rattle.edge.specs.Edge.{Edge, edge, misses, turns}
 use Rattle.boundary.specs.Boundary.{pointInside, unmet}
-use Rattle.boundary.specs.Sums.{differ-sums}
-use Rattle.boundary.specs.Closed.{oddly, Closed}
+use Rattle.boundary.specs.Sums.{total, Sums, differ-sums}
+use Rattle.boundary.specs.Closed.{oddly}
 use Rattle.boundary.specs.Keeps.{Keeps, keeps-inner, keeps-drop, keeps-unmet, keeps-turned}
 use Rattle.boundary.specs.Listed.{edgesIn, edgeIn, withEdge}
 use Rattle.boundary.specs.ListedLaws.{edges-length, edges-from, with-length, edge-there, edge-before}
 use Rattle.quick.specs.declared.half.Half.{Half}
-use Rattle.quick.specs.Half.{keptIn, Same, KeptFor, Sound, Part, Between, AllIn}
+use Rattle.quick.specs.Half.{keptIn, meeting, MissedTo, MetFirst, Same, Sound, partOf, startingAt, Part, Between, AllIn}
 
 -- Edges that are the same at so many places from one on make the same list
 places-same : (f g : ℕ → Edge) (n i : ℕ) → ((j : ℕ) → i ≤ j → j < i + n → f j ≡ g j) → map f (countUp n i) ≡ map g (countUp n i)
@@ -41,39 +42,6 @@ places-last zero i = ap (λ (k : ℕ). k ∷ []) (omega arith)
 places-last (suc n) i =
     let here : suc i + n ≡ i + suc n = omega arith in
     ap (λ (js : List ℕ). i ∷ js) (places-last n (suc i) ∙ ap (λ (k : ℕ). countUp n (suc i) ++ (k ∷ [])) here)
-
--- The first edges of a list stand in a room from its start, and it is as long as it was
-pub record Filled (edges lent room : List ℕ) (i : ℕ) : Type 0 where
-  pub own : (j : ℕ) → j < i → edgeIn room j ≡ edgeIn edges j
-  pub long : length room ≡ length lent
-
--- At first none does
-pub filled-begin : (edges lent : List ℕ) → Filled edges lent lent 0
-filled-begin edges lent = record { own = λ j h. let none : ⊥ = omega arith in absurd none; long = refl }
-
--- One edge more
-pub filled-again : {edges lent room : List ℕ} {i : ℕ} → Filled edges lent room i → i < length lent / 4
-    → Filled edges lent (withEdge room i (edgeIn edges i)) (i + 1)
-filled-again {edges} {lent} {room} {i} f less =
-    record { own = λ j k. at j k (either-way i j); long = with-length room i (edgeIn edges i) ∙ f .long }
-  where
-    fits : i < length room / 4
-    fits = omega (arith, f .long)
-
-    at : (j : ℕ) → j < i + 1 → (i ≤ j) ⊎ (j < i) → edgeIn (withEdge room i (edgeIn edges i)) j ≡ edgeIn edges j
-    at j k (inl p) =
-        let e : i ≡ j = omega arith in
-        subst (λ (n : ℕ). edgeIn (withEdge room i (edgeIn edges i)) n ≡ edgeIn edges n) e (edge-there room i (edgeIn edges i) fits)
-    at j k (inr p) = edge-before room i (edgeIn edges i) fits j p ∙ f .own j p
-
--- with the room by another name
-pub filled-as : {edges lent room named : List ℕ} {i : ℕ} → named ≡ room → Filled edges lent room i → Filled edges lent named i
-filled-as {edges} {lent} {room} {named} {i} e f = subst (λ (l : List ℕ). Filled edges lent l i) (sym e) f
-
--- At the end all edges of the list stand there
-pub filled-end : {edges lent room : List ℕ} {i : ℕ} → Filled edges lent room i → length edges / 4 ≤ i → length edges / 4 ≤ length lent / 4
-    → AllIn edges room
-filled-end f h fits = record { fits = omega (arith, f .long); all = λ j k. f .own j (omega arith) }
 
 module _ (room : List ℕ) where
   -- No edges from the end on
@@ -97,191 +65,202 @@ edges-places edges zero i e = drop-of-length-le (edgesIn edges) {i = i} (omega (
 edges-places edges (suc n) i e =
     edges-from edges i (omega arith) ∙ ap (λ (es : List Edge). edgeIn edges i ∷ es) (edges-places edges n (suc i) (omega arith))
 
--- Where all edges of a list stand in a room, they are those up to their count
-pub all-kept : {edges room : List ℕ} → AllIn edges room → keptIn room 0 (length edges / 4) ≡ edgesIn edges
-all-kept {edges} {room} l =
-    let all : length edges / 4 - 0 ≡ length edges / 4 = omega arith in
+-- The edges up to a place are those of the numbers up to it
+pub kept-listed : (room : List ℕ) (count : ℕ) → 4 * count ≤ length room → keptIn room 0 count ≡ edgesIn (take (4 * count) room)
+kept-listed room count h =
+    let all : count - 0 ≡ count = omega arith in
+    let long : length (take (4 * count) room) ≡ 4 * count = length-take-le (4 * count) room h in
     ap (λ (n : ℕ). map (edgeIn room) (countUp n 0)) all
-    ∙ places-same (edgeIn room) (edgeIn edges) (length edges / 4) 0 (λ j p q. l .all j (omega arith))
-    ∙ sym (edges-places edges (length edges / 4) 0 (omega arith))
+    ∙ places-same (edgeIn room) (edgeIn (take (4 * count) room)) count 0 (λ j p q. sym (same j (omega arith)))
+    ∙ sym (edges-places (take (4 * count) room) count 0 (omega (arith, long)))
+  where
+    number : (k : ℕ) → k < 4 * count → getD (take (4 * count) room) k 0 ≡ getD room k 0
+    number k less = getD-take (4 * count) room k 0 less
 
--- and stay so where the room stays the same up to there
-pub all-same : {edges room later : List ℕ} → AllIn edges room → length later ≡ length room → Same (length edges / 4) room later → AllIn edges later
-all-same l long same = record { fits = omega (arith, l .fits); all = λ j h. same j h ∙ l .all j h }
+    same : (j : ℕ) → j < count → edgeIn (take (4 * count) room) j ≡ edgeIn room j
+    same j less =
+        ap₂ edge
+        (ap₂ (λ (y x : ℕ). at (lat y) (lon x)) (number (2 * (2 * j)) (omega arith)) (number (2 * (2 * j) + 1) (omega arith)))
+        (ap₂ (λ (y x : ℕ). at (lat y) (lon x)) (number (2 * (2 * j + 1)) (omega arith)) (number (2 * (2 * j + 1) + 1) (omega arith)))
 
--- Whether no edge meets a rectangle is what the kept edges from place i on say
-pub record UnmetFrom (es : List Edge) (room : List ℕ) (r : Rectangle) (to i : ℕ) : Type 0 where
-  pub rest : unmet r es ≡ unmet r (keptIn room i to)
+-- All edges stay where they are as long as the room stays the same up to there
+pub all-same : {es : List Edge} {room later : List ℕ} {count : ℕ} → AllIn es room count → length later ≡ length room → Same count room later
+    → AllIn es later count
+all-same {es} {room} {later} {count} a long same =
+    record { fits = omega (arith, a .fits); all = kept-same room later same 0 count (omega arith) ∙ a .all }
 
--- At first by all of a half's edges
-pub unmet-begin : {es : List Edge} {room : List ℕ} {h : Half} → Sound es room h → UnmetFrom es room (h .ground) (h .to) (h .from)
-unmet-begin s = record { rest = keeps-unmet (keeps-inner (wide-ordered (s .wide)) (s .within) (s .kept .keeps)) }
+-- Edges that miss up to a place, and then up to a later one
+pub missed-then : {room : List ℕ} {r : Rectangle} {from to end : ℕ} → MissedTo room r from to → MissedTo room r to end → MissedTo room r from end
+missed-then {room} {r} {from} {to} {end} m n j h k = at (either-way to j)
+  where
+    at : (to ≤ j) ⊎ (j < to) → misses (edgeIn room j) r ≡ true
+    at (inl l) = n j l k
+    at (inr l) = m j h l
 
-module _ {es : List Edge} {room : List ℕ} {r : Rectangle} {to i : ℕ} (u : UnmetFrom es room r to i) where
-  -- The first of the edges left, and the others
-  unmet-next : (b : Bool) → i < to → b ≡ misses (edgeIn room i) r
-      → unmet r es ≡ (b && unmet r (keptIn room (i + 1) to))
-  unmet-next b h t =
-      u .rest ∙ ap (unmet r) (kept-more room i to h) ∙ ap (λ (c : Bool). c && unmet r (keptIn room (i + 1) to)) (sym t)
+-- none up to the first
+pub missed-none : {room : List ℕ} {r : Rectangle} {from : ℕ} → MissedTo room r from from
+missed-none j h k = let none : ⊥ = omega arith in absurd none
 
-  -- An edge that meets the rectangle decides it
-  pub unmet-met : {m : Bool} → i < to → m ≡ misses (edgeIn room i) r → not m ≡ true
-      → false ≡ unmet r es
-  unmet-met {m} h t n = sym (unmet-next false h (sym (not-true m n) ∙ t))
+-- and one more
+pub missed-again : {room : List ℕ} {r : Rectangle} {from i : ℕ} → MissedTo room r from i → misses (edgeIn room i) r ≡ true → MissedTo room r from (i + 1)
+missed-again {room} {r} {from} {i} m t =
+    missed-then m (λ j h k. let same : i ≡ j = omega arith in subst (λ (n : ℕ). misses (edgeIn room n) r ≡ true) same t)
 
-  -- one that misses it leaves it to the others
-  pub unmet-again : {m : Bool} → i < to → m ≡ misses (edgeIn room i) r → not m ≡ false
-      → UnmetFrom es room r to (i + 1)
-  unmet-again {m} h t n = record { rest = unmet-next true h (sym (not-false m n) ∙ t) }
+-- Edges that miss a rectangle need not be kept for it
+keeps-passed : {es : List Edge} {room : List ℕ} {r : Rectangle} {to : ℕ} (n i : ℕ) → MissedTo room r i (i + n) → Keeps es r (keptIn room i to)
+    → Keeps es r (keptIn room (i + n) to)
+keeps-passed {es} {room} {r} {to} zero i m k = let same : i ≡ i + 0 = omega arith in subst (λ (j : ℕ). Keeps es r (keptIn room j to)) same k
+keeps-passed {es} {room} {r} {to} (suc n) i m k =
+    let next : i + 1 + n ≡ i + suc n = omega arith in
+    subst (λ (j : ℕ). Keeps es r (keptIn room j to)) next
+    (keeps-passed n (i + 1) (λ j h l. m j (omega arith) (omega arith)) (at (either-way to i)))
+  where
+    at : (to ≤ i) ⊎ (i < to) → Keeps es r (keptIn room (i + 1) to)
+    at (inl h) = subst (Keeps es r) (kept-none room i to h ∙ sym (kept-none room (i + 1) to (omega arith))) k
+    at (inr h) =
+        keeps-drop [] (edgeIn room i) (keptIn room (i + 1) to) (m i (omega arith) (omega arith))
+        (subst (Keeps es r) (kept-more room i to h) k)
 
-  -- and where none is left, none meets it
-  pub unmet-end : to ≤ i → true ≡ unmet r es
-  unmet-end h = sym (u .rest ∙ ap (unmet r) (kept-none room i to h))
+-- Of kept edges those that meet the rectangle are enough
+pub keeps-meeting : {es : List Edge} {r : Rectangle} (ks : List Edge) → Keeps es r ks → Keeps es r (meeting r ks)
+keeps-meeting {es} {r} ks k = record { sum = λ op unit laws f none. k .sum op unit laws f none ∙ sums op unit laws f none ks }
+  where
+    sums : (op : Bool → Bool → Bool) (unit : Bool) → Sums op unit → (f : Edge → Bool) → ((e : Edge) → misses e r ≡ true → f e ≡ unit)
+        → (ks : List Edge) → total op unit f ks ≡ total op unit f (meeting r ks)
+    sums op unit laws f none [] = refl
+    sums op unit laws f none (e ∷ ks) = at (misses e r) refl
+      where
+        at : (t : Bool) → misses e r ≡ t → op (f e) (total op unit f ks) ≡ total op unit f (cond t (meeting r ks) (e ∷ meeting r ks))
+        at true t =
+            ap (λ (b : Bool). op b (total op unit f ks)) (none e t) ∙ laws .none (total op unit f ks) ∙ sums op unit laws f none ks
+        at false t = ap (op (f e)) (sums op unit laws f none ks)
 
--- The odd count at a point q is the one so far with the turns, on the way from p to q, of the kept edges from place i on
-pub record OddFrom (es : List Edge) (room : List ℕ) (east : Lon) (p q : Point) (to : ℕ) (odd : Bool) (i : ℕ) : Type 0 where
-  pub rest : pointInside q es ≡ differ odd (oddly (turns east p q) (keptIn room i to))
+module _ {es : List Edge} {room : List ℕ} {h : Half} (s : Sound es room h) where
+  -- The edges from the first that meets a half on are kept for it
+  keeps-met : {place : ℕ} → MetFirst room (h .ground) (h .first) (h .to) place → Keeps es (h .ground) (keptIn room place (h .to))
+  keeps-met {place} m =
+      let there : h .first + (place - h .first) ≡ place = omega (arith, m .least) in
+      subst (λ (j : ℕ). Keeps es (h .ground) (keptIn room j (h .to))) there
+      (keeps-passed (place - h .first) (h .first) (λ j k l. m .missed j k (omega arith)) (s .asked))
 
--- At first the one at the half's corner
-pub odd-begin : {es : List Edge} {room : List ℕ} {h : Half} {q : Point} → Sound es room h → Lies (h .ground) q
-    → OddFrom es room (h .east) (h .corner) q (h .to) (h .odd) (h .from)
-odd-begin {es} {room} {h} {q} s in-q =
-    let kept = keptIn room (h .from) (h .to) in
-    record {
-      rest = keeps-turned (s .closed) (s .lies) (lies-within (s .within) in-q) (s .kept .keeps)
-          ∙ ap₂ (λ (b : Bool) (x : Lon). differ b (oddly (turns x (h .corner) q) kept)) (sym (s .odd)) (sym (s .east));
-    }
+  -- Where one meets it, it is met
+  pub met-unmet : {place : ℕ} → MetFirst room (h .ground) (h .first) (h .to) place → place < h .to → unmet (h .ground) es ≡ false
+  met-unmet {place} m less =
+      keeps-unmet (keeps-met m) ∙ ap (unmet (h .ground)) (kept-more room place (h .to) less)
+      ∙ ap (λ (t : Bool). t && unmet (h .ground) (keptIn room (place + 1) (h .to))) (m .met less)
 
-module _ {es : List Edge} {room : List ℕ} {east : Lon} {p q : Point} {to : ℕ} {odd : Bool} {i : ℕ} (o : OddFrom es room east p q to odd i) where
+  -- and where none does, not
+  pub past-unmet : {place : ℕ} → MetFirst room (h .ground) (h .first) (h .to) place → h .to ≤ place → unmet (h .ground) es ≡ true
+  past-unmet {place} m past = keeps-unmet (keeps-met m) ∙ ap (unmet (h .ground)) (kept-none room place (h .to) past)
+
+  -- The count at a point of a half, by its edges alone
+  pub odd-inside : {q : Point} → Lies (h .ground) q
+      → differ (h .odd) (oddly (turns (h .east) (h .corner) q) (keptIn room (h .from) (h .to))) ≡ pointInside q es
+  odd-inside {q} in-q =
+      let kept = keptIn room (h .from) (h .to) in
+      sym
+      (keeps-turned (s .closed) (s .lies) (lies-within (s .within) in-q) (s .kept .keeps)
+      ∙ ap₂ (λ (b : Bool) (x : Lon). differ b (oddly (turns x (h .corner) q) kept)) (sym (s .odd)) (sym (s .east)))
+
+-- The loop of `odd_at`: the count so far, with the turns of the edges from place i on
+pub record OddFrom (room : List ℕ) (turn : Edge → Bool) (whole : Bool) (to : ℕ) (odd : Bool) (i : ℕ) : Type 0 where
+  pub rest : whole ≡ differ odd (oddly turn (keptIn room i to))
+
+module _ {room : List ℕ} {turn : Edge → Bool} {whole : Bool} {to : ℕ} {odd : Bool} {i : ℕ} (o : OddFrom room turn whole to odd i) where
   -- One edge more
-  pub odd-again : {turn : Bool} → i < to → turn ≡ turns east p q (edgeIn room i)
-      → OddFrom es room east p q to (not (Bool·beq odd turn)) (i + 1)
-  odd-again {turn} h t =
-      let f = turns east p q in
-      let rest = oddly f (keptIn room (i + 1) to) in
+  pub odd-again : {t : Bool} {e : Edge} → i < to → t ≡ turn e → e ≡ edgeIn room i → OddFrom room turn whole to (not (Bool·beq odd t)) (i + 1)
+  odd-again {t} {e} h is seen =
+      let rest = oddly turn (keptIn room (i + 1) to) in
       record {
         rest =
-            o .rest ∙ ap (λ (es : List Edge). differ odd (oddly f es)) (kept-more room i to h)
-            ∙ sym (differ-sums .assoc odd (f (edgeIn room i)) rest)
-            ∙ ap (λ (b : Bool). differ b rest) (ap (differ odd) (sym t) ∙ sym (unlike odd turn));
+            o .rest ∙ ap (λ (es : List Edge). differ odd (oddly turn es)) (kept-more room i to h)
+            ∙ sym (differ-sums .assoc odd (turn (edgeIn room i)) rest)
+            ∙ ap (λ (b : Bool). differ b rest) (ap (differ odd) (sym (is ∙ ap turn seen)) ∙ sym (unlike odd t));
       }
 
   -- and where none is left, it is known
-  pub odd-end : to ≤ i → odd ≡ pointInside q es
-  odd-end h =
-      sym
-      (o .rest ∙ ap (λ (es : List Edge). differ odd (oddly (turns east p q) es)) (kept-none room i to h) ∙ differ-comm odd false)
+  pub odd-end : to ≤ i → odd ≡ whole
+  odd-end h = sym (o .rest ∙ ap (λ (es : List Edge). differ odd (oddly turn es)) (kept-none room i to h) ∙ differ-comm odd false)
 
--- The loop of `keep`: the edges put behind the half's, with those of the half still to be seen, are kept for the part
-pub record Moved (es : List Edge) (lent room : List ℕ) (part : Rectangle) (to end i : ℕ) : Type 0 where
-  pub keeps : Keeps es part (keptIn room to end ++ keptIn room i to)
+-- The loop of `keep`: those put behind the others, with those that meet of the edges still to be seen, are those that meet
+pub record Moved (lent room : List ℕ) (r : Rectangle) (from to end i : ℕ) : Type 0 where
+  pub all : keptIn room to end ++ meeting r (keptIn room i to) ≡ meeting r (keptIn lent from to)
   pub first : to ≤ end
-  pub last : 4 * end ≤ length room
+  pub few : end + from ≤ to + i
   pub same : Same to lent room
   pub long : length room ≡ length lent
 
--- What is kept for a half is kept for a part of it
-keeps-part : {es : List Edge} {room : List ℕ} {h : Half} {part : Rectangle} → Sound es room h → Part h part
-    → Keeps es part (keptIn room (h .from) (h .to))
-keeps-part s p = keeps-inner (wide-ordered (p .wide)) (within-then (p .within) (s .within)) (s .kept .keeps)
+-- At first none is moved
+pub moved-begin : (lent : List ℕ) (r : Rectangle) (from to : ℕ) → Moved lent lent r from to to from
+moved-begin lent r from to =
+    record {
+      all = ap (λ (es : List Edge). es ++ meeting r (keptIn lent from to)) (kept-none lent to to (omega arith));
+      first = omega arith;
+      few = omega arith;
+      same = λ j k. refl;
+      long = refl;
+    }
 
-module _ {es : List Edge} {lent : List ℕ} where
-  -- At first none is moved
-  pub moved-begin : {h : Half} {part : Rectangle} → Sound es lent h → Part h part
-      → Moved es lent lent part (h .to) (h .to) (h .from)
-  moved-begin {h} {part} s p =
+module _ {lent room : List ℕ} {r : Rectangle} {from to end i : ℕ} (m : Moved lent room r from to end i) where
+  -- The first edge still to be seen is moved or not
+  moved-next : {t : Bool} → i < to → misses (edgeIn room i) r ≡ t
+      → keptIn room to end ++ cond t (meeting r (keptIn room (i + 1) to)) (edgeIn room i ∷ meeting r (keptIn room (i + 1) to))
+      ≡ meeting r (keptIn lent from to)
+  moved-next {t} h e =
+      let rest = meeting r (keptIn room (i + 1) to) in
+      sym
+      (ap (λ (es : List Edge). keptIn room to end ++ meeting r es) (kept-more room i to h)
+      ∙ ap (λ (b : Bool). keptIn room to end ++ cond b rest (edgeIn room i ∷ rest)) e)
+      ∙ m .all
+
+  -- An edge that misses is left out
+  pub moved-missed : i < to → misses (edgeIn room i) r ≡ true → Moved lent room r from to end (i + 1)
+  moved-missed h t =
+      record { all = moved-next h t; first = m .first; few = omega (arith, m .few); same = m .same; long = m .long }
+
+  -- Any other is put behind the others
+  pub moved-added : {e : Edge} → i < to → end < length room / 4 → misses (edgeIn room i) r ≡ false → e ≡ edgeIn room i
+      → Moved lent (withEdge room end e) r from to (end + 1) (i + 1)
+  moved-added {e} h k t is =
       record {
-        keeps = subst (λ (ks : List Edge). Keeps es part (ks ++ keptIn lent (h .from) (h .to)))
-            (sym (kept-none lent (h .to) (h .to) (omega arith))) (keeps-part s p);
-        first = omega arith;
-        last = s .kept .last;
-        same = λ j k. refl;
-        long = refl;
+        all =
+            ap₂ (λ (es ks : List Edge). es ++ meeting r ks) behind before
+            ∙ append-assoc (keptIn room to end) (edgeIn room i ∷ []) (meeting r (keptIn room (i + 1) to)) ∙ moved-next h t;
+        first = omega (arith, m .first);
+        few = omega (arith, m .few);
+        same = λ j l. edge-before room end e k j (omega (arith, m .first)) ∙ m .same j l;
+        long = with-length room end e ∙ m .long;
       }
+    where
+      later : List ℕ
+      later = withEdge room end e
 
-  module _ {room : List ℕ} {part : Rectangle} {to end i : ℕ} (m : Moved es lent room part to end i) where
-    -- The first edge still to be seen stands between
-    moved-next : i < to
-        → Keeps es part (keptIn room to end ++ (edgeIn room i ∷ keptIn room (i + 1) to))
-    moved-next h =
-        subst (λ (ks : List Edge). Keeps es part (keptIn room to end ++ ks)) (kept-more room i to h)
-        (m .keeps)
+      stays : Same end room later
+      stays = edge-before room end e k
 
-    -- An edge that is found clear of the part is left out
-    pub moved-clear : {clear : Bool} {e : Edge} → i < to → (clear ≡ true → misses e part ≡ true) → e ≡ edgeIn room i → not clear ≡ false
-        → Moved es lent room part to end (i + 1)
-    moved-clear {clear} h t is n =
-        let missed = subst (λ (e : Edge). misses e part ≡ true) is (t (not-false clear n)) in
-        record {
-          keeps = keeps-drop (keptIn room to end) (edgeIn room i) (keptIn room (i + 1) to) missed (moved-next h);
-          first = m .first;
-          last = m .last;
-          same = m .same;
-          long = m .long;
-        }
+      before : keptIn later (i + 1) to ≡ keptIn room (i + 1) to
+      before = kept-same room later stays (i + 1) to (m .first)
 
-    -- Any other is put behind the others
-    pub moved-added : {e : Edge} → i < to → end < length room / 4 → e ≡ edgeIn room i
-        → Moved es lent (withEdge room end e) part to (end + 1) (i + 1)
-    moved-added {e} h k is =
-        record {
-          keeps = subst (Keeps es part)
-              (sym (ap₂ _++_ behind before ∙ append-assoc (keptIn room to end) (edgeIn room i ∷ []) (keptIn room (i + 1) to)))
-              (moved-next h);
-          first = omega (arith, m .first);
-          last = omega (arith, with-length room end e);
-          same = λ j l. edge-before room end e k j (omega (arith, m .first)) ∙ m .same j l;
-          long = with-length room end e ∙ m .long;
-        }
-      where
-        later : List ℕ
-        later = withEdge room end e
+      behind : keptIn later to (end + 1) ≡ keptIn room to end ++ (edgeIn room i ∷ [])
+      behind =
+          let count : end + 1 - to ≡ suc (end - to) = omega (arith, m .first) in
+          let last : to + (end - to) ≡ end = omega (arith, m .first) in
+          ap (λ (n : ℕ). map (edgeIn later) (countUp n to)) count
+          ∙ ap (map (edgeIn later)) (places-last (end - to) to)
+          ∙ map-append (edgeIn later) (countUp (end - to) to) ((to + (end - to)) ∷ [])
+          ∙ ap₂ (λ (es : List Edge) (e : Edge). es ++ (e ∷ [])) (kept-same room later stays to end (omega arith))
+          (ap (edgeIn later) last ∙ edge-there room end e k ∙ is)
 
-        stays : Same end room later
-        stays = edge-before room end e k
+  -- At the end those behind the others are those that meet
+  pub moved-end : to ≤ i → keptIn room to end ≡ meeting r (keptIn lent from to)
+  moved-end h =
+      sym (append-nil (keptIn room to end)) ∙ ap (λ (es : List Edge). keptIn room to end ++ meeting r es) (sym (kept-none room i to h)) ∙ m .all
 
-        before : keptIn later (i + 1) to ≡ keptIn room (i + 1) to
-        before = kept-same room later stays (i + 1) to (m .first)
-
-        behind : keptIn later to (end + 1) ≡ keptIn room to end ++ (edgeIn room i ∷ [])
-        behind =
-            let count : end + 1 - to ≡ suc (end - to) = omega (arith, m .first) in
-            let last : to + (end - to) ≡ end = omega (arith, m .first) in
-            ap (λ (n : ℕ). map (edgeIn later) (countUp n to)) count
-            ∙ ap (map (edgeIn later)) (places-last (end - to) to)
-            ∙ map-append (edgeIn later) (countUp (end - to) to) ((to + (end - to)) ∷ [])
-            ∙ ap₂ (λ (es : List Edge) (e : Edge). es ++ (e ∷ [])) (kept-same room later stays to end (omega arith))
-            (ap (edgeIn later) last ∙ edge-there room end e k ∙ is)
-
-    -- At the end those behind the others are kept
-    pub moved-end : to ≤ i → KeptFor es room part to end
-    moved-end h =
-        record {
-          keeps = subst (Keeps es part)
-              (ap (λ (es : List Edge). keptIn room to end ++ es) (kept-none room i to h) ∙ append-nil (keptIn room to end))
-              (m .keeps);
-          first = m .first;
-          last = m .last;
-        }
-
-  -- with the room and the end by other names
-  pub moved-as : {room named : List ℕ} {part : Rectangle} {to end last i : ℕ} → named ≡ room → last ≡ end
-      → Moved es lent room part to end i → Moved es lent named part to last i
-  moved-as {room} {named} {part} {to} {end} {last} {i} e f m =
-      subst (λ (n : ℕ). Moved es lent named part to n i) (sym f)
-      (subst (λ (l : List ℕ). Moved es lent l part to end i) (sym e) m)
-
-  -- Where the room ends, the half's own edges are kept
-  pub moved-full : {h : Half} {part : Rectangle} {room : List ℕ} {end i : ℕ} → Sound es lent h → Part h part
-      → Moved es lent room part (h .to) end i → KeptFor es room part (h .from) (h .to)
-  moved-full {h} {part} {room} {end} {i} s p m =
-      let same : keptIn room (h .from) (h .to) ≡ keptIn lent (h .from) (h .to) =
-      kept-same lent room (m .same) (h .from) (h .to) (omega arith) in
-      record {
-        keeps = subst (Keeps es part) (sym same) (keeps-part s p);
-        first = s .kept .first;
-        last = omega (arith, m .first, m .last);
-      }
+-- with the room and the end by other names
+pub moved-as : {lent room named : List ℕ} {r : Rectangle} {from to end last i : ℕ} → named ≡ room → last ≡ end → Moved lent room r from to end i
+    → Moved lent named r from to last i
+moved-as {lent} {room} {named} {r} {from} {to} {end} {last} {i} e f m =
+    subst (λ (n : ℕ). Moved lent named r from to n i) (sym f) (subst (λ (l : List ℕ). Moved lent l r from to end i) (sym e) m)
 
 -- What is known of a half stays so in a later room with the same edges before its last
 pub sound-same : {es : List Edge} {room later : List ℕ} {h : Half} → Sound es room h → Same (h .to) room later → length later ≡ length room
@@ -299,6 +278,7 @@ sound-same {es} {room} {later} {h} s same long =
         first = s .kept .first;
         last = subst (λ (n : ℕ). 4 * h .to ≤ n) (sym long) (s .kept .last);
       };
+      asked = subst (Keeps es (h .ground)) (sym (kept-same room later same (h .first) (h .to) (omega arith))) (s .asked);
       odd = s .odd;
     }
 
@@ -316,36 +296,55 @@ module _ {es : List Edge} {room : List ℕ} {h : Half} (s : Sound es room h) whe
   pub east-part : (x : Lon) → Between (h .ground .west .0) (x .0) (h .ground .east .0) → Part h (eastOf (h .ground) x)
   east-part x b = record { wide = omega (arith, s .wide .up, b .below); within = omega (arith, b .above) }
 
--- A part of a half that shares its edges
-pub sound-shared : {es : List Edge} {room : List ℕ} {h : Half} {part : Rectangle} → Sound es room h → Part h part
-    → Sound es room (record { ground = part; corner = h .corner; odd = h .odd; east = h .east; from = h .from; to = h .to })
-sound-shared s p =
-    record {
-      closed = s .closed;
-      wide = p .wide;
-      around = s .around;
-      within = within-then (p .within) (s .within);
-      lies = s .lies;
-      east = s .east;
-      kept = s .kept;
-      odd = s .odd;
-    }
+  -- A part of a half that shares its edges
+  pub sound-part : {part : Rectangle} → Part h part → Sound es room (partOf h part)
+  sound-part p =
+      record {
+        closed = s .closed;
+        wide = p .wide;
+        around = s .around;
+        within = within-then (p .within) (s .within);
+        lies = s .lies;
+        east = s .east;
+        kept = s .kept;
+        asked = keeps-inner (wide-ordered (p .wide)) (p .within) (s .asked);
+        odd = s .odd;
+      }
 
--- and one with edges of its own
-pub sound-sorted : {es : List Edge} {room : List ℕ} {part : Rectangle} {corner : Point} {odd : Bool} {from to : ℕ} → Closed es → Wide part
-    → corner ≡ southWest part → odd ≡ pointInside corner es → KeptFor es room part from to
-    → Sound es room (record { ground = part; corner = corner; odd = odd; east = part .east; from = from; to = to })
-sound-sorted {part = part} closed wide is odd kept =
-    record {
-      closed = closed;
-      wide = wide;
-      around = part;
-      within = within-self part;
-      lies = subst (Lies part) (sym is) (corner-lies wide);
-      east = refl;
-      kept = kept;
-      odd = odd;
-    }
+  -- A half from the first edge on that meets it
+  pub sound-starting : {place : ℕ} → MetFirst room (h .ground) (h .first) (h .to) place → Sound es room (startingAt h place)
+  sound-starting m =
+      record {
+        closed = s .closed;
+        wide = s .wide;
+        around = s .around;
+        within = s .within;
+        lies = s .lies;
+        east = s .east;
+        kept = s .kept;
+        asked = keeps-met s m;
+        odd = s .odd;
+      }
+
+  -- and one with edges of its own
+  pub sound-sorted : {later : List ℕ} {corner : Point} {odd : Bool} {place end : ℕ} → corner ≡ southWest (h .ground) → odd ≡ pointInside corner es
+      → MetFirst room (h .ground) (h .first) (h .to) place → keptIn later (h .to) end ≡ meeting (h .ground) (keptIn room place (h .to))
+      → (h .to ≤ end) × (4 * end ≤ length later)
+      → Sound es later (record { ground = h .ground; corner = corner; odd = odd; east = h .ground .east; from = h .to; first = h .to; to = end })
+  sound-sorted {later} {corner} {odd} {place} {end} is count m kept fits =
+      let own : Keeps es (h .ground) (keptIn later (h .to) end) =
+      subst (Keeps es (h .ground)) (sym kept) (keeps-meeting (keptIn room place (h .to)) (keeps-met s m)) in
+      record {
+        closed = s .closed;
+        wide = s .wide;
+        around = h .ground;
+        within = within-self (h .ground);
+        lies = subst (Lies (h .ground)) (sym is) (corner-lies (s .wide));
+        east = refl;
+        kept = record { keeps = own; first = fits .0; last = fits .1 };
+        asked = own;
+        odd = count;
+      }
 
 -- Edges that stay the same up to a place, and then up to a later one
 pub same-then : (room later latest : List ℕ) {to last : ℕ} → (to ≤ last) × Same to room later → Same last later latest → Same to room latest

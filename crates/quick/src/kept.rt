@@ -2,13 +2,13 @@
 // be left out on the way down. An edge stands there as in a list of edges.
 ghost use Prim.Native.Nat.{_-_, _*_, _≤_, _<_};
 ghost use mathlib.Core.Path.{_≡_};
-ghost use mathlib.Core.Bool.{Bool, true, false, not};
+ghost use mathlib.Core.Bool.{false, not};
 ghost use lib.ListN.{length};
 ghost use Rattle.facts.specs.Tests.{differ};
 ghost use Rattle.edge.specs.Edge.{edge, beyond, misses, turns};
 ghost use Rattle.boundary.specs.Closed.{oddly};
 ghost use Rattle.boundary.specs.Listed.{boundaryOf, edgeIn};
-ghost use Rattle.quick.specs.Half.{keptIn, meeting, MissedTo, MetFirst, Same, Sound};
+ghost use Rattle.quick.specs.Half.{keptIn, meeting, NearFirst, MetFirst, Same, Sound};
 use crate::half::Half;
 use crate::halves::starting_at;
 use boundary::put_edge;
@@ -43,8 +43,7 @@ fn ends(room: &[u32], i: usize) -> Ends
 // The first place from one on whose edge is not beyond a side of ground: most are, and comparisons tell it.
 fn next_near(room: &[u32], ground: Rectangle, from: usize, to: usize) -> usize
     requires { ⌜ 4 * to ≤ length (now room) ⌝ }
-    ensures { λ p. ⌜ (from ≤ p) × MissedTo (now (room .entry)) ground from p ⌝ }
-    ensures { λ p. ⌜ (p < to → beyond (edgeIn (now (room .entry)) p) ground ≡ false) ⌝ }
+    ensures { λ p. ⌜ NearFirst (now (room .entry)) ground from to p ⌝ }
 {
     let mut i = from;
     while i < to {
@@ -62,7 +61,7 @@ fn meets(a: Point, b: Point, ground: Rectangle) -> bool
     requires { ⌜ beyond (edge a b) ground ≡ false ⌝ }
     ensures { λ m. ⌜ m ≡ not (misses (edge a b) ground) ⌝ }
 {
-    edge::ends_within(a, b, ground) || !edge::aside(a, b, ground)
+    edge::end_within(a, b, ground) || !edge::aside(a, b, ground)
 }
 
 // The place of the first of a half's edges that meets it, or one past all of them.
@@ -125,7 +124,7 @@ fn keep(room: &mut [u32], ground: Rectangle, from: usize, to: usize) -> usize
 // halvings left, or few edges, or no room for as many again, it stays with those that it has.
 pub(crate) fn sorted(numbers: &[u32], room: &mut [u32], half: Half, place: usize, left: u32) -> Half
     requires { ⌜ Sound (boundaryOf (now numbers)) (now room) half ⌝ }
-    requires { ⌜ (place < half .to) × MissedTo (now room) (half .ground) (half .first) place ⌝ }
+    requires { ⌜ (place < half .to) × MetFirst (now room) (half .ground) (half .first) (half .to) place ⌝ }
     ensures { λ h. ⌜ (h .ground ≡ half .ground) × Sound (boundaryOf (now (numbers .entry))) (now (room .exit)) h ⌝ }
     ensures { λ h. ⌜ (half .to ≤ h .to) × Same (half .to) (now (room .entry)) (now (room .exit)) ⌝ }
 {
