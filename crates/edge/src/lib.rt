@@ -22,20 +22,6 @@ fn both_most(a: u32, b: u32, c: u32, d: u32) -> bool
     a <= b && c <= d
 }
 
-// Whether two numbers are both at most a third: the greater tells.
-fn most(a: u32, b: u32, third: u32) -> bool
-    ensures { λ r. ⌜ r ≡ (leb a third && leb b third) ⌝ }
-{
-    ground::greater(a, b) <= third
-}
-
-// Whether they are both at least a third: the lesser tells.
-fn least(a: u32, b: u32, third: u32) -> bool
-    ensures { λ r. ⌜ r ≡ (leb third a && leb third b) ⌝ }
-{
-    third <= ground::lesser(a, b)
-}
-
 // Whether both ends of an edge are beyond one side of a rectangle.
 pub fn beyond(a: Point, b: Point, r: Rectangle) -> bool
     ensures { λ m. ⌜ m ≡ Edge·beyond (edge a b) r ⌝ }
@@ -48,16 +34,16 @@ pub fn beyond(a: Point, b: Point, r: Rectangle) -> bool
     let east = r.east;
     let south = r.south;
     let north = r.north;
-    if most(a_lon.0, b_lon.0, west.0) {
+    if both_most(a_lon.0, west.0, b_lon.0, west.0) {
         return true;
     }
-    if least(a_lon.0, b_lon.0, east.0) {
+    if both_most(east.0, a_lon.0, east.0, b_lon.0) {
         return true;
     }
-    if most(a_lat.0, b_lat.0, south.0) {
+    if both_most(a_lat.0, south.0, b_lat.0, south.0) {
         return true;
     }
-    least(a_lat.0, b_lat.0, north.0)
+    both_most(north.0, a_lat.0, north.0, b_lat.0)
 }
 
 // The latitude of the corner that is furthest right of the line from a to b.
@@ -216,40 +202,25 @@ pub fn crosses_east(p: Point, a: Point, b: Point) -> bool
     straddles(p, a, b) && passes_east(p, a, b)
 }
 
-// Whether a corner is at or below the latitude of one of two points alone.
-fn parted(p: Point, q: Point, v: Point) -> bool
-    ensures { λ m. ⌜ m ≡ differ (low v p) (low v q) ⌝ }
-{
-    let height = v.lat;
-    let p_lat = p.lat;
-    let q_lat = q.lat;
-    (height.0 <= p_lat.0) != (height.0 <= q_lat.0)
-}
-
-// Whether a corner is at or beyond an east side.
-fn past_east(east: Lon, v: Point) -> bool
-    ensures { λ m. ⌜ m ≡ leb (east .0) (v .lon .0) ⌝ }
-{
-    let at = v.lon;
-    east.0 <= at.0
-}
-
 // Whether a corner at or beyond an east side is at or below the latitude of one of two points alone.
 fn between(p: Point, q: Point, east: Lon, v: Point) -> bool
     ensures { λ m. ⌜ m ≡ Edge·between east p q v ⌝ }
 {
-    past_east(east, v) && parted(p, q, v)
+    let at = v.lon;
+    let height = v.lat;
+    let p_lat = p.lat;
+    let q_lat = q.lat;
+    east.0 <= at.0 && (height.0 <= p_lat.0) != (height.0 <= q_lat.0)
 }
 
 // Whether an edge turns the count from odd to even, or back, between two points west of an east side. Most
-// edges have both ends on one side of each latitude, and cross nothing: the ends alone turn the count, where
-// they are parted by the latitudes, and one of them alone is beyond the east side.
+// edges lie wholly above or below both points, and cross nothing: of these the ends alone are asked.
 pub fn turns(p: Point, q: Point, east: Lon, a: Point, b: Point) -> bool
     ensures { λ m. ⌜ m ≡ Edge·turns east p q (edge a b) ⌝ }
 {
+    let ends = between(p, q, east, a) != between(p, q, east, b);
     if straddles(p, a, b) || straddles(q, a, b) {
-        let ends = between(p, q, east, a) != between(p, q, east, b);
         return (crosses_east(p, a, b) != crosses_east(q, a, b)) != ends;
     }
-    parted(p, q, a) && past_east(east, a) != past_east(east, b)
+    ends
 }

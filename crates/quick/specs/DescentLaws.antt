@@ -1,32 +1,40 @@
 -- The laws of a descent: the answer for ground that is a cell, the halves that follow, and the answers for them that make that for the whole.
 -- Assumes nothing.
-use Prim.Native.Nat.{ℕ, _+_, _-_, _*_, _/_, _%_, _≤_, _<_}
+use Prim.Native.Nat.{ℕ, _+_, _-_, _/_, _%_, _≤_, _<_, max}
 use native.Mathlib.Nat.{eq-or-lt-of-le}
 use native.Mathlib.Omega.{arith}
 use mathlib.Core.Path.{_≡_, refl, sym, ap, subst, subst₂, _∙_}
 use mathlib.Core.Logic.{_⊎_, inl, inr}
 use mathlib.Core.Bool.{Bool, true, false, true≢false}
 use mathlib.Core.List.{List}
+use lib.Dec.{eqb}
+use borrow.Author.Tests.{eqb-true, eqb-false}
+use Rattle.facts.specs.Numbers.{either-way}
 use Rattle.ground.specs.declared.Lat.{Lat}
 use Rattle.ground.specs.declared.Lon.{Lon}
 use Rattle.ground.specs.declared.Rectangle.{Rectangle}
 use Rattle.ground.specs.declared.Cell.{Cell}
-use Rattle.ground.specs.Levels.{latEnd, lonEnd, coarsestLevel, finestLevel, IsLevel}
-use Rattle.ground.specs.Rectangles.{Within, southOf, northOf, westOf, eastOf}
+use Rattle.ground.specs.Levels.{latEnd, lonEnd, IsLevel}
+use Rattle.ground.specs.Rectangles.{Within, Wide, southOf, northOf, westOf, eastOf}
+use Rattle.ground.specs.RectanglesLaws.{within-self}
 use Rattle.ground.specs.Cells.{lowSide, highSide, sidesOf, IsCell}
-use Rattle.ground.specs.CellsLaws.{low-below-high}
+use Rattle.ground.specs.CellsLaws.{low-below-high, cell-wide}
 use Rattle.ground.specs.SidesLaws.{none-between}
-use Rattle.ground.specs.Halves.{Span, Ground, splitAt}
+use Rattle.ground.specs.Halves.{Span, Ground, splitAt, latSplit, lonSplit}
 use Rattle.ground.specs.HalvesLaws.{LatHalves, lat-halves, lat-unhalved, LonHalves, lon-halves, lon-unhalved}
 use Rattle.edge.specs.Edge.{Edge}
-use Rattle.boundary.specs.Boundary.{groundInside, inside}
+use Rattle.boundary.specs.Boundary.{unmet, groundInside, inside}
+use Rattle.boundary.specs.InsideLaws.{inside-within}
 use Rattle.chosen.specs.declared.Choice.{Choice}
-use Rattle.chosen.specs.declared.Choice.the-variants.{At, Nowhere}
-use Rattle.chosen.specs.Chosen.{Before}
+use Rattle.chosen.specs.declared.Choice.the-variants.{At}
 use Rattle.quick.specs.declared.half.Half.{Half}
-use Rattle.quick.specs.Half.{Sound, Between, HoldsNone}
-use Rattle.quick.specs.Best.{Wanted, Best, earlier, levelOf, level-between, best-here, best-below, best-lat, best-lon, best-west}
-use Rattle.quick.specs.Descent.{ByLat, ByLon}
+use Rattle.quick.specs.declared.half.Sought.{Sought}
+use Rattle.quick.specs.Half.{Sound, partOf, Between, HoldsNone}
+use Rattle.quick.specs.HalfLaws.{south-part, north-part, west-part, east-part, sound-part}
+use Rattle.quick.specs.PassingLaws.{met-inside}
+use Rattle.quick.specs.First.{Wanted, First, Past, settledAt}
+use Rattle.quick.specs.FirstLaws.{first-stays, first-below, first-corner, first-lat, first-lon, past-within, past-first, settled-none, unsettled-ahead}
+use Rattle.quick.specs.Descent.{Seeks, ByLat, ByLon}
 
 -- The cell of a level with the south-west corner of a rectangle
 abbrev pub cellOf : ℕ → Rectangle → Cell
@@ -114,7 +122,7 @@ module _ {es : List Edge} {room : List ℕ} {half : Half} {s : Sought} {left : �
         is = cell-inside es lat-level (b .ground) e;
         lies = subst (λ (x : Rectangle). Within x (half .ground)) (sym (ground-cell es lat-level (b .ground))) (within-self (half .ground));
       })
-      refl refl refl (unsettled-ahead found (cellOf (s .finest - left / 2) (half .ground)) t (omega arith))
+      refl refl refl (unsettled-ahead (max (s .finest - left / 2) (s .coarsest)) (s .finest) found (cellOf (s .finest - left / 2) (half .ground)) t (omega arith))
 
   -- Else there is none where no halvings are left
   pub lat-end : left ≡ 0 → unmet (half .ground) es ≡ false → First es (s .finest - left / 2) (s .finest) (half .ground) found found
@@ -182,7 +190,7 @@ module _ {es : List Edge} {room : List ℕ} {half : Half} {s : Sought} {left : �
         pub lat-south : ByLon es room (partOf half (southOf (half .ground) at)) s (left - 1) found
         lat-south =
             let part = south-part (b .sound) at lat-between in
-            lat-on (sound-part (b .sound) part) (lat-split .south) (past-within found (part .within) (b .past))
+            lat-on (sound-part (b .sound) part) (lat-split .south) (past-within found (southOf (half .ground) at) (half .ground) (part .within) (b .past))
 
         module _ {later : List ℕ} (kept : Sound es later half) (a : Choice)
             (first : First es (s .finest - (left - 1) / 2) (s .finest) (southOf (half .ground) at) found a) where
@@ -191,7 +199,7 @@ module _ {es : List Edge} {room : List ℕ} {half : Half} {s : Sought} {left : �
           lat-north =
               let part = north-part (b .sound) at lat-between in
               lat-on (sound-part kept part) (lat-split .north)
-              (past-first a (inl (omega arith)) first (past-within found (part .within) (b .past)))
+              (past-first (northOf (half .ground) at) a (inl (omega arith)) first (past-within found (northOf (half .ground) at) (half .ground) (part .within) (b .past)))
 
           -- and the answer for both
           pub lat-joined : (c : Choice) → unmet (half .ground) es ≡ false
@@ -268,7 +276,7 @@ module _ {es : List Edge} {room : List ℕ} {half : Half} {s : Sought} {left : �
       pub lon-west : ByLat es room (partOf half (westOf (half .ground) at)) s (left - 1) found
       lon-west =
           let part = west-part (b .sound) at lon-between in
-          lon-on (sound-part (b .sound) part) (lon-split .west) (past-within found (part .within) (b .past))
+          lon-on (sound-part (b .sound) part) (lon-split .west) (past-within found (westOf (half .ground) at) (half .ground) (part .within) (b .past))
 
       module _ {later : List ℕ} (kept : Sound es later half) (a : Choice)
           (first : First es (s .finest - (left - 1) / 2) (s .finest) (westOf (half .ground) at) found a) where
@@ -277,7 +285,7 @@ module _ {es : List Edge} {room : List ℕ} {half : Half} {s : Sought} {left : �
         lon-east =
             let part = east-part (b .sound) at lon-between in
             lon-on (sound-part kept part) (lon-split .east)
-            (past-first a (inr (omega arith)) first (past-within found (part .within) (b .past)))
+            (past-first (eastOf (half .ground) at) a (inr (omega arith)) first (past-within found (eastOf (half .ground) at) (half .ground) (part .within) (b .past)))
 
         -- and the answer for both
         pub lon-joined : (c : Choice) → First es (s .finest - (left - 1) / 2) (s .finest) (eastOf (half .ground) at) a c
@@ -306,22 +314,26 @@ module _ {es : List Edge} {room : List ℕ} {half : Half} {s : Sought} {left : �
         cell = is;
         least = omega arith;
         most = omega arith;
-        is = cell-inside es lon-level own (inside-part (b .sound .closed) wide within e);
+        is = cell-inside es lon-level own (inside-within es (half .ground) e (b .sound .closed) wide within);
         lies = subst (λ (x : Rectangle). Within x (half .ground)) (sym sides) within;
       })
       refl (ap (λ x. x .0) west) (ap (λ y. y .0) south)
-      (unsettled-ahead found c (subst (λ (x : Lon). settledAt found x (max (s .finest - left / 2) (s .coarsest)) (s .finest) ≡ false) (sym west) t) (omega arith)))
+      (unsettled-ahead (max (s .finest - left / 2) (s .coarsest)) (s .finest) found c (subst (λ (x : Lon). settledAt found x (max (s .finest - left / 2) (s .coarsest)) (s .finest) ≡ false) (sym west) t) (omega arith)))
 
   -- Ground that is inside has the answer in its south-west corner
   pub lon-inside : groundInside es (half .ground) ≡ true
       → settledAt found (half .ground .west) (max (s .finest - left / 2) (s .coarsest)) (s .finest) ≡ false
       → First es (s .finest - left / 2) (s .finest) (half .ground) found (At (cellOf (s .finest - left / 2) (half .ground)))
-  lon-inside e t = at (eq-or-ne (lonSplit (s .finest - left / 2) (half .ground) .0) (half .ground .east .0))
+  lon-inside e t = by (eqb (at .0) (half .ground .east .0)) refl
     where
-      at : (lonSplit (s .finest - left / 2) (half .ground) .0 ≡ half .ground .east .0)
-          ⊎ (lonSplit (s .finest - left / 2) (half .ground) .0 ≡ half .ground .east .0 → ⊥)
+      at : Lon
+      at = lonSplit (s .finest - left / 2) (half .ground)
+
+      by : (k : Bool) → eqb (at .0) (half .ground .east .0) ≡ k
           → First es (s .finest - left / 2) (s .finest) (half .ground) found (At (cellOf (s .finest - left / 2) (half .ground)))
-      at (inl same) = lon-corner (half .ground) (lon-unsplit refl same) (within-self (half .ground)) refl refl e t
-      at (inr other) =
-          let west = westOf (half .ground) (lonSplit (s .finest - left / 2) (half .ground)) in
-          lon-corner west (lon-split refl other .west) (west-part (b .sound) (lonSplit (s .finest - left / 2) (half .ground)) (lon-between refl other) .within) refl refl e t
+      by true k =
+          let same = eqb-true (at .0) (half .ground .east .0) k in
+          lon-corner (half .ground) (lon-unsplit refl same) (within-self (half .ground)) refl refl e t
+      by false k =
+          let other = eqb-false (at .0) (half .ground .east .0) k in
+          lon-corner (westOf (half .ground) at) (lon-split refl other .west) (west-part (b .sound) at (lon-between refl other) .within) refl refl e t

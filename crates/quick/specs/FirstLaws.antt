@@ -59,12 +59,12 @@ module _ {es : List Edge} {from : ℕ} where
   pub wanted-part : {finest : ℕ} {r s : Rectangle} {c : Cell} → Wanted es from finest s c → Within (sidesOf c) r → Wanted es from finest r c
   wanted-part w lies = record { cell = w .cell; least = w .least; most = w .most; is = w .is; lies = lies }
 
-module _ {es : List Edge} {from finest : ℕ} where
-  -- What is gained in a part is gained in the whole
-  gained-within : {r s : Rectangle} {found : Choice} (answer : Choice) → Within r s → Gained es from finest r found answer
-      → Gained es from finest s found answer
-  gained-within (At c) h g = (wanted-within h (g .0), g .1)
+-- What is gained in a part is gained in the whole
+gained-within : (es : List Edge) (from finest : ℕ) (r s : Rectangle) (found answer : Choice) → Within r s → Gained es from finest r found answer
+    → Gained es from finest s found answer
+gained-within es from finest r s found (At c) h g = (wanted-within h (g .0), g .1)
 
+module _ {es : List Edge} {from finest : ℕ} where
   -- What was found stays where no wanted cell comes before it
   pub first-stays : {r : Rectangle} {found : Choice} → ((d : Cell) → Wanted es from finest r d → Ahead d found → ⊥)
       → First es from finest r found found
@@ -79,7 +79,7 @@ module _ {es : List Edge} {from finest : ℕ} where
     where
       by : (answer ≡ found) ⊎ Gained es from finest r found answer → (answer ≡ found) ⊎ Gained es from finest s found answer
       by (inl e) = inl e
-      by (inr g) = inr (gained-within answer h g)
+      by (inr g) = inr (gained-within es from finest r s found answer h g)
 
   -- The answer for one part, handed to the other, gives that for the whole
   pub first-both : {r p q : Rectangle} → Within p r → Within q r
@@ -93,8 +93,8 @@ module _ {es : List Edge} {from finest : ℕ} where
       origin : (a b : Choice) → (a ≡ found) ⊎ Gained es from finest p found a → (b ≡ a) ⊎ Gained es from finest q a b
           → (b ≡ found) ⊎ Gained es from finest r found b
       origin a b (inl e) (inl k) = inl (k ∙ e)
-      origin a b (inl e) (inr k) = inr (gained-within b hq (subst (λ (x : Choice). Gained es from finest q x b) e k))
-      origin a b (inr j) (inl k) = inr (subst (Gained es from finest r found) (sym k) (gained-within a hp j))
+      origin a b (inl e) (inr k) = inr (gained-within es from finest q r found b hq (subst (λ (x : Choice). Gained es from finest q x b) e k))
+      origin a b (inr j) (inl k) = inr (subst (Gained es from finest r found) (sym k) (gained-within es from finest p r found a hp j))
       origin a b (inr j) (inr k) = inr (gained a b j k)
 
       -- what comes before the second answer comes before the first
@@ -137,23 +137,23 @@ module _ {es : List Edge} {from finest : ℕ} where
       none d v (inr (e, inl h)) = omega (arith, v .lies .west)
       none d v (inr (e, inr (k, h))) = omega (arith, v .lies .south)
 
-  -- What is found lies past no ground within
-  pub past-within : (found : Choice) {r s : Rectangle} → Within r s → Past found s → Past found r
-  past-within (At c) h (inl p) = inl (omega (arith, h .west))
-  past-within (At c) h (inr p) = inr (omega (arith, h .south))
-  past-within Nowhere h p = tt
-
   -- Ground north or east of a part is past what is found there, if past what was found before
-  pub past-first : {p q : Rectangle} {found : Choice} (answer : Choice) → (p .north .0 ≤ q .south .0) ⊎ (p .east .0 ≤ q .west .0)
+  pub past-first : {p : Rectangle} (q : Rectangle) {found : Choice} (answer : Choice) → (p .north .0 ≤ q .south .0) ⊎ (p .east .0 ≤ q .west .0)
       → First es from finest p found answer → Past found q → Past answer q
   unfolding sidesOf
-  past-first {p} {q} {found} answer apart f past = by answer apart (f .origin)
+  past-first {p} q {found} answer apart f past = by answer apart (f .origin)
     where
       by : (answer : Choice) → (p .north .0 ≤ q .south .0) ⊎ (p .east .0 ≤ q .west .0)
           → (answer ≡ found) ⊎ Gained es from finest p found answer → Past answer q
       by answer apart (inl e) = subst (λ (x : Choice). Past x q) (sym e) past
       by (At c) (inl h) (inr g) = inr (omega (arith, cell-wide c (g .0 .cell .level) .up, g .0 .lies .north))
       by (At c) (inr h) (inr g) = inl (omega (arith, cell-wide c (g .0 .cell .level) .across, g .0 .lies .east))
+
+-- Ground that is past what is found is so in each part
+pub past-within : (found : Choice) (r s : Rectangle) → Within r s → Past found s → Past found r
+past-within (At c) r s h (inl p) = inl (omega (arith, h .west))
+past-within (At c) r s h (inr p) = inr (omega (arith, h .south))
+past-within Nowhere r s h p = tt
 
 -- Where the search is settled, no wanted cell comes before what is found
 pub settled-none : {es : List Edge} {from finest least : ℕ} {r : Rectangle} (found : Choice) → settledAt found (r .west) least finest ≡ true
@@ -174,9 +174,9 @@ settled-none {es} {from} {finest} {least} {r} (At c) t past d w more h = at (ltb
 settled-none {finest = finest} {least} Nowhere t past d w more h = omega (arith, ltb-true finest least t, w .most)
 
 -- and where it is not, a cell of a level up to the least that is wanted does
-pub unsettled-ahead : {least finest : ℕ} (found : Choice) (c : Cell) → settledAt found (c .west) least finest ≡ false → c .level ≤ least
+pub unsettled-ahead : (least finest : ℕ) (found : Choice) (c : Cell) → settledAt found (c .west) least finest ≡ false → c .level ≤ least
     → Ahead c found
-unsettled-ahead {least} {finest} (At e) c t most = at (ltb (c .west .0) (e .west .0)) refl t
+unsettled-ahead least finest (At e) c t most = at (ltb (c .west .0) (e .west .0)) refl t
   where
     at : (b : Bool) → ltb (c .west .0) (e .west .0) ≡ b → cond b (ltb (e .level) least) (leb (e .level) least) ≡ false → Before c e
     at true k s = by (either-way (e .level) (c .level))
@@ -185,7 +185,7 @@ unsettled-ahead {least} {finest} (At e) c t most = at (ltb (c .west .0) (e .west
         by (inl l) = inr (omega (arith, ltb-false (e .level) least s), inl (ltb-true (c .west .0) (e .west .0) k))
         by (inr l) = inl l
     at false k s = inl (omega (arith, leb-false (e .level) least s))
-unsettled-ahead Nowhere c t most = tt
+unsettled-ahead least finest Nowhere c t most = tt
 
 -- A low side of the coarsest level is one of each wanted cell's level
 wanted-side : {es : List Edge} {from finest : ℕ} {r : Rectangle} (d : Cell) → coarsestLevel ≤ from → {a : ℕ} → lowSide from a ≡ a

@@ -35,8 +35,8 @@ meeting r [] = []
 meeting r (e ∷ es) = cond (misses e r) (meeting r es) (e ∷ meeting r es)
 
 -- The edges from one place to before another miss a rectangle
-abbrev pub MissedTo : List ℕ → Rectangle → ℕ → ℕ → Type 0
-MissedTo room r from to = (j : ℕ) → from ≤ j → j < to → misses (edgeIn room j) r ≡ true
+pub record MissedTo (room : List ℕ) (r : Rectangle) (from to : ℕ) : Type 0 where
+  pub each : (j : ℕ) → from ≤ j → j < to → misses (edgeIn room j) r ≡ true
 
 -- The place of the first of the edges between two places that is not beyond a side of a rectangle, or one past them
 pub record NearFirst (room : List ℕ) (r : Rectangle) (from to place : ℕ) : Type 0 where
@@ -114,7 +114,7 @@ HoldsNone es finest g = (d : Cell) → IsCell d → d .level ≤ finest → insi
 abbrev pub yes : Tested → Bool
 yes PassedOver = true
 yes Inside = false
-yes Met = false
+yes (Met place) = false
 
 -- Where it does not, it says whether the ground is inside, or where the first edge that meets it stands
 abbrev pub Else : List Edge → List ℕ → Half → Tested → Type 0

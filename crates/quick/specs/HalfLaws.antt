@@ -91,49 +91,53 @@ all-same {es} {room} {later} {count} a long same =
 
 -- Edges that miss up to a place, and then up to a later one
 pub missed-then : {room : List ℕ} {r : Rectangle} {from to end : ℕ} → MissedTo room r from to → MissedTo room r to end → MissedTo room r from end
-missed-then {room} {r} {from} {to} {end} m n j h k = at (either-way to j)
+missed-then {room} {r} {from} {to} {end} m n = record { each = λ j h k. at j h k (either-way to j) }
   where
-    at : (to ≤ j) ⊎ (j < to) → misses (edgeIn room j) r ≡ true
-    at (inl l) = n j l k
-    at (inr l) = m j h l
+    at : (j : ℕ) → from ≤ j → j < end → (to ≤ j) ⊎ (j < to) → misses (edgeIn room j) r ≡ true
+    at j h k (inl l) = n .each j l k
+    at j h k (inr l) = m .each j h l
 
 -- none up to the first
-pub missed-none : {room : List ℕ} {r : Rectangle} {from : ℕ} → MissedTo room r from from
-missed-none j h k = let none : ⊥ = omega arith in absurd none
+pub missed-none : (room : List ℕ) (r : Rectangle) (from : ℕ) → MissedTo room r from from
+missed-none room r from = record { each = λ j h k. let none : ⊥ = omega arith in absurd none }
 
 -- and one more
 pub missed-again : {room : List ℕ} {r : Rectangle} {from i : ℕ} → MissedTo room r from i → misses (edgeIn room i) r ≡ true → MissedTo room r from (i + 1)
-missed-again {room} {r} {from} {i} m t =
-    missed-then m (λ j h k. let same : i ≡ j = omega arith in subst (λ (n : ℕ). misses (edgeIn room n) r ≡ true) same t)
+missed-again {room} {r} {from} {i} m t = missed-then m (record { each = λ j h k. one j h k })
+  where
+    one : (j : ℕ) → i ≤ j → j < i + 1 → misses (edgeIn room j) r ≡ true
+    one j h k = let same : i ≡ j = omega arith in subst (λ (n : ℕ). misses (edgeIn room n) r ≡ true) same t
 
 -- Edges that miss a rectangle need not be kept for it
-keeps-passed : {es : List Edge} {room : List ℕ} {r : Rectangle} {to : ℕ} (n i : ℕ) → MissedTo room r i (i + n) → Keeps es r (keptIn room i to)
+keeps-passed : {es : List Edge} {room : List ℕ} {r : Rectangle} (to n i : ℕ) → MissedTo room r i (i + n) → Keeps es r (keptIn room i to)
     → Keeps es r (keptIn room (i + n) to)
-keeps-passed {es} {room} {r} {to} zero i m k = let same : i ≡ i + 0 = omega arith in subst (λ (j : ℕ). Keeps es r (keptIn room j to)) same k
-keeps-passed {es} {room} {r} {to} (suc n) i m k =
+keeps-passed {es} {room} {r} to zero i m k = let same : i ≡ i + 0 = omega arith in subst (λ (j : ℕ). Keeps es r (keptIn room j to)) same k
+keeps-passed {es} {room} {r} to (suc n) i m k =
     let next : i + 1 + n ≡ i + suc n = omega arith in
     subst (λ (j : ℕ). Keeps es r (keptIn room j to)) next
-    (keeps-passed n (i + 1) (λ j h l. m j (omega arith) (omega arith)) (at (either-way to i)))
+    (keeps-passed {room = room} to n (i + 1) (record { each = λ j h l. m .each j (omega arith) (omega arith) }) (at (either-way to i)))
   where
     at : (to ≤ i) ⊎ (i < to) → Keeps es r (keptIn room (i + 1) to)
     at (inl h) = subst (Keeps es r) (kept-none room i to h ∙ sym (kept-none room (i + 1) to (omega arith))) k
     at (inr h) =
-        keeps-drop [] (edgeIn room i) (keptIn room (i + 1) to) (m i (omega arith) (omega arith))
+        keeps-drop [] (edgeIn room i) (keptIn room (i + 1) to) (m .each i (omega arith) (omega arith))
         (subst (Keeps es r) (kept-more room i to h) k)
 
--- Of kept edges those that meet the rectangle are enough
-pub keeps-meeting : {es : List Edge} {r : Rectangle} (ks : List Edge) → Keeps es r ks → Keeps es r (meeting r ks)
-keeps-meeting {es} {r} ks k = record { sum = λ op unit laws f none. k .sum op unit laws f none ∙ sums op unit laws f none ks }
+-- A sum to which an edge that misses adds nothing is that over those that meet
+meeting-sums : (op : Bool → Bool → Bool) (unit : Bool) → Sums op unit → (f : Edge → Bool) (r : Rectangle)
+    → ((e : Edge) → misses e r ≡ true → f e ≡ unit) → (ks : List Edge) → total op unit f ks ≡ total op unit f (meeting r ks)
+meeting-sums op unit laws f r none [] = refl
+meeting-sums op unit laws f r none (e ∷ ks) = at (misses e r) refl (meeting-sums op unit laws f r none ks)
   where
-    sums : (op : Bool → Bool → Bool) (unit : Bool) → Sums op unit → (f : Edge → Bool) → ((e : Edge) → misses e r ≡ true → f e ≡ unit)
-        → (ks : List Edge) → total op unit f ks ≡ total op unit f (meeting r ks)
-    sums op unit laws f none [] = refl
-    sums op unit laws f none (e ∷ ks) = at (misses e r) refl
-      where
-        at : (t : Bool) → misses e r ≡ t → op (f e) (total op unit f ks) ≡ total op unit f (cond t (meeting r ks) (e ∷ meeting r ks))
-        at true t =
-            ap (λ (b : Bool). op b (total op unit f ks)) (none e t) ∙ laws .none (total op unit f ks) ∙ sums op unit laws f none ks
-        at false t = ap (op (f e)) (sums op unit laws f none ks)
+    at : (t : Bool) → misses e r ≡ t → total op unit f ks ≡ total op unit f (meeting r ks)
+        → op (f e) (total op unit f ks) ≡ total op unit f (cond t (meeting r ks) (e ∷ meeting r ks))
+    at true t rest = ap (λ (b : Bool). op b (total op unit f ks)) (none e t) ∙ laws .none (total op unit f ks) ∙ rest
+    at false t rest = ap (op (f e)) rest
+
+-- So of kept edges those that meet the rectangle are enough
+keeps-meeting : {es : List Edge} {r : Rectangle} (ks : List Edge) → Keeps es r ks → Keeps es r (meeting r ks)
+keeps-meeting {es} {r} ks k =
+    record { sum = λ op unit laws f none. k .sum op unit laws f none ∙ meeting-sums op unit laws f r none ks }
 
 module _ {es : List Edge} {room : List ℕ} {h : Half} (s : Sound es room h) where
   -- The edges from the first that meets a half on are kept for it
@@ -141,7 +145,7 @@ module _ {es : List Edge} {room : List ℕ} {h : Half} (s : Sound es room h) whe
   keeps-met {place} m =
       let there : h .first + (place - h .first) ≡ place = omega (arith, m .least) in
       subst (λ (j : ℕ). Keeps es (h .ground) (keptIn room j (h .to))) there
-      (keeps-passed (place - h .first) (h .first) (λ j k l. m .missed j k (omega arith)) (s .asked))
+      (keeps-passed {room = room} (h .to) (place - h .first) (h .first) (record { each = λ j k l. m .missed .each j k (omega arith) }) (s .asked))
 
   -- Where one meets it, it is met
   pub met-unmet : {place : ℕ} → MetFirst room (h .ground) (h .first) (h .to) place → place < h .to → unmet (h .ground) es ≡ false

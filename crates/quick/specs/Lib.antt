@@ -1,6 +1,7 @@
 pub mod Half
 pub mod HalfLaws
-pub mod Best
+pub mod First
+pub mod FirstLaws
 pub mod Descent
 pub mod DescentLaws
 pub mod PassingLaws

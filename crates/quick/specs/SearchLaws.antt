@@ -27,17 +27,17 @@ use Rattle.edge.specs.Edge.{Edge}
 use Rattle.boundary.specs.Boundary.{inside}
 use Rattle.boundary.specs.Closed.{north-apart}
 use Rattle.boundary.specs.Keeps.{Keeps, keeps-all}
-use Rattle.boundary.specs.Listed.{edgesIn}
 use Rattle.chosen.specs.declared.Choice.{Choice}
 use Rattle.chosen.specs.declared.Choice.the-variants.{At, Nowhere}
 use Rattle.chosen.specs.Chosen.{choose, Over}
 use Rattle.chosen.specs.ChosenLaws.{chosen-choose, none-choose}
 use Rattle.chosen.specs.InExtents.{in-extents}
 use Rattle.quick.specs.declared.half.Half.{Half}
-use Rattle.quick.specs.Half.{Sound, AllIn}
-use Rattle.quick.specs.HalfLaws.{all-kept}
-use Rattle.quick.specs.Best.{Wanted, Best, earlier, levelOf, before-most, best-all, best-west, best-north, best-east}
-use Rattle.quick.specs.Descent.{ByLat, Levels, column, everywhere, tooWide, TooWideBefore, NoneInside}
+use Rattle.quick.specs.declared.half.Sought.{Sought}
+use Rattle.quick.specs.Half.{keptIn, Sound, AllIn}
+use Rattle.quick.specs.First.{Wanted, Gained, First, Past}
+use Rattle.quick.specs.FirstLaws.{before-most, first-stays, first-all, first-lat, first-lon, past-first}
+use Rattle.quick.specs.Descent.{Seeks, ByLat, Levels, column, everywhere, tooWide, TooWideBefore, NoneInside}
 
 -- An answer of two tests in turn: the first where it holds
 pub or-first : {w a : Bool} (b : Bool) → w ≡ a → w ≡ true → w ≡ (a || b)
@@ -97,13 +97,14 @@ pub two-each : {finest top : ℕ} → Levels finest top → finest - 2 * (finest
 two-each l = omega (arith, l .below)
 
 -- The half that a descent starts from: all edges, and a corner of the extents that every corner is at or below
-abbrev pub topHalf : List ℕ → Rectangle → Rectangle → Half
-topHalf edges r cell = record { ground = cell; corner = at (r .north) (r .west); odd = false; east = lon (lonEnd + 1); from = 0; to = length edges / 4 }
+abbrev pub topHalf : ℕ → Rectangle → Rectangle → Half
+topHalf count r cell =
+    record { ground = cell; corner = at (r .north) (r .west); odd = false; east = lon (lonEnd + 1); from = 0; first = 0; to = count }
 
-module _ {edges room : List ℕ} (all : AllIn edges room) {r : Rectangle} (o : Over r (edgesIn edges)) {top : ℕ} (l : IsLevel top)
+module _ {es : List Edge} {room : List ℕ} {count : ℕ} (all : AllIn es room count) {s : Sought} (seeks : Seeks es s) {top : ℕ} (l : IsLevel top)
     {cell : Rectangle} (g : Ground top top cell) where
   -- What is known of it is so
-  sound-all : Sound (edgesIn edges) room (topHalf edges r cell)
+  sound-all : Sound es room (topHalf count (s .extents) cell)
   sound-all =
       record {
         closed = o .closed;
@@ -115,27 +116,31 @@ module _ {edges room : List ℕ} (all : AllIn edges room) {r : Rectangle} (o : O
         within = omega (arith, g .east-end, g .north-end);
         lies = omega (arith, o .order .across, o .order .up, o .east-end, o .north-end);
         east = refl;
-        kept = record {
-          keeps = subst (Keeps (edgesIn edges) around) (sym (all-kept all)) (keeps-all (edgesIn edges) around);
-          first = omega arith;
-          last = all .fits;
-        };
-        odd = sym (north-apart (at (r .north) (r .west)) (o .closed) (each-so (λ e h. (h .0 .north, h .1 .north)) (edgesIn edges) (o .held)));
+        kept = record { keeps = keeps around; first = omega arith; last = all .fits };
+        asked = keeps cell;
+        odd = sym (north-apart (at (s .extents .north) (s .extents .west)) (o .closed) (each-so (λ e h. (h .0 .north, h .1 .north)) es (o .held)));
       }
     where
+      o : Over (s .extents) es
+      o = seeks .over
+
       around : Rectangle
       around = record { west = lon 0; east = lon (lonEnd + 1); south = lat 0; north = lat (latEnd + 1) }
 
+      keeps : (r : Rectangle) → Keeps es r (keptIn room 0 count)
+      keeps r = subst (Keeps es r) (sym (all .all)) (keeps-all es r)
+
   -- and so is what the descent is asked
-  pub by-lat-all : {finest : ℕ} → Levels finest top → ByLat (edgesIn edges) room (topHalf edges r cell) r finest (2 * (finest - top))
-  by-lat-all {finest} h =
+  pub by-lat-all : {found : Choice} → Levels (s .finest) top → Past found cell
+      → ByLat es room (topHalf count (s .extents) cell) s (2 * (s .finest - top)) found
+  by-lat-all h past =
       record {
         sound = sound-all;
-        over = o;
+        seeks = seeks;
         even = omega arith;
         coarsest = omega (arith, h .coarsest, h .below);
-        most = h .most;
         ground = subst (λ (n : ℕ). Ground n n cell) (sym (two-each h)) g;
+        past = past;
       }
 
 -- The ground between two longitudes and two latitudes
@@ -143,11 +148,11 @@ abbrev pub between : Lon → Lon → ℕ → ℕ → Rectangle
 between west east from south = record { west = west; east = east; south = lat from; north = lat south }
 
 -- The column has been searched from a latitude up to a south side
-pub record UpTo (es : List Edge) (finest top : ℕ) (west east : Lon) (from south : ℕ) (found : Choice) : Type 0 where
+pub record UpTo (es : List Edge) (finest top : ℕ) (west east : Lon) (from south : ℕ) (before found : Choice) : Type 0 where
   pub is : lowSide top south ≡ south
   pub least : from ≤ south
   pub most : south ≤ latEnd
-  pub best : Best es top finest (between west east from south) found
+  pub first : First es top finest (between west east from south) before found
 
 -- The level to start from is a level
 pub top-level : {finest top : ℕ} → Levels finest top → IsLevel top
@@ -162,36 +167,43 @@ module _ {r : Rectangle} {es : List Edge} (o : Over r es) {finest top : ℕ} (l 
   east-most is less = side-end top (top-level l) 180 is less (o .east-end)
 
   -- At first nothing has been searched
-  pub column-begin : (west east : Lon) {south : ℕ} → south ≡ lowSide top (r .south .0) → UpTo es finest top west east south south Nowhere
+  pub column-begin : (west east : Lon) {south : ℕ} {before : Choice} → south ≡ lowSide top (r .south .0)
+      → UpTo es finest top west east south south before before
   column-begin west east {south} e =
       record {
         is = subst (λ (n : ℕ). lowSide top n ≡ n) (sym e) (low-low top (top-level l) (r .south .0));
         least = omega arith;
         most = omega (arith, low-most top (top-level l) (r .south .0), o .order .up, o .north-end);
-        best = λ d w. omega (arith, cell-wide d (w .cell .level) .up, w .lies .south, w .lies .north);
+        first = first-stays (λ d w h. omega (arith, cell-wide d (w .cell .level) .up, w .lies .south, w .lies .north));
       }
 
-  module _ {west east : Lon} {from south : ℕ} {found : Choice} (s : UpTo es finest top west east from south found) where
+  module _ {west east : Lon} {from south : ℕ} {before found : Choice} (s : UpTo es finest top west east from south before found) where
+    -- The next cell is past what is found
+    pub column-past : (north : ℕ) → Past before (column west east) → Past found (between west east south north)
+    column-past north past =
+        past-first (between west east south north) found (inl (omega arith)) (s .first) (west-past before past)
+      where
+        west-past : (before : Choice) → Past before (column west east) → Past before (between west east south north)
+        west-past (At c) (inl h) = inl h
+        west-past (At c) (inr h) = let none : ⊥ = omega arith in absurd none
+        west-past Nowhere h = tt
+
     -- One more cell
-    pub column-again : {north : ℕ} (next : Choice) {whole : Choice} → south < r .north .0 → north ≡ highSide top south
-        → Best es top finest (between west east south north) next → whole ≡ earlier found next
-        → UpTo es finest top west east from north whole
-    column-again {north} next {whole} less e best whole-is =
+    pub column-again : {north : ℕ} (next : Choice) → south < r .north .0 → north ≡ highSide top south
+        → First es top finest (between west east south north) found next → UpTo es finest top west east from north before next
+    column-again {north} next less e first =
         let more : south < north = omega (arith, low-below-high top south (top-level l)) in
         record {
           is = subst (λ (n : ℕ). lowSide top n ≡ n) (sym e) (high-low top (top-level l) south (s .is));
           least = omega (arith, s .least);
           most = omega (arith, north-most (s .is) less);
-          best =
-              subst (Best es top finest (between west east from north)) (sym whole-is)
-              (best-north es top finest (l .coarsest) (between west east from north) (lat south)
-              (s .is) (s .least) (omega arith) found next (s .best) best);
+          first = first-lat (l .coarsest) (between west east from north) found next (lat south) (s .is) (s .least) (omega arith) (s .first) first;
         }
 
     -- At the end the ground has been searched
-    pub column-end : from ≡ lowSide top (r .south .0) → r .north .0 ≤ south → Best es top finest (column west east) found
+    pub column-end : from ≡ lowSide top (r .south .0) → r .north .0 ≤ south → First es top finest (column west east) before found
     column-end e past =
-        best-all finest found (record { west = omega arith; east = omega arith; south = omega arith; north = s .most })
+        first-all found (record { west = omega arith; east = omega arith; south = omega arith; north = s .most })
         (λ d w.
         let i = in-extents o d (w .cell) (w .is) in
         record {
@@ -200,13 +212,21 @@ module _ {r : Rectangle} {es : List Edge} (o : Over r es) {finest top : ℕ} (l 
           south = omega (arith, low-most top (top-level l) (r .south .0), i .south);
           north = omega (arith, i .north);
         })
-        (s .best)
+        (s .first)
+
+-- A cell that is found is somewhere
+found-somewhere : {c : Cell} → At c ≡ Nowhere → ⊥
+found-somewhere e = subst (λ (x : Choice). some x) e tt
+  where
+    some : Choice → Type 0
+    some (At c) = Unit {0}
+    some Nowhere = ⊥
 
 -- The ground has been searched from the range's start to a west side
 pub record EastTo (es : List Edge) (finest top west : ℕ) (found : Choice) : Type 0 where
   pub is : lowSide top west ≡ west
   pub most : west ≤ lonEnd
-  pub best : Best es top finest (column (lon 0) (lon west)) found
+  pub first : First es top finest (column (lon 0) (lon west)) Nowhere found
 
 module _ {r : Rectangle} {es : List Edge} (o : Over r es) {finest top : ℕ} (l : Levels finest top) where
   -- At first, before the extents, there is nothing to find
@@ -216,38 +236,29 @@ module _ {r : Rectangle} {es : List Edge} (o : Over r es) {finest top : ℕ} (l 
       record {
         is = subst (λ (n : ℕ). lowSide top n ≡ n) (sym e) (low-low top (top-level l) (r .west .0));
         most = omega (arith, o .order .across, o .east-end);
-        best = λ d w. omega (arith, cell-wide d (w .cell .level) .across, in-extents o d (w .cell) (w .is) .west, w .lies .east);
+        first = first-stays (λ d w h. omega (arith, cell-wide d (w .cell .level) .across, in-extents o d (w .cell) (w .is) .west, w .lies .east));
       }
 
   module _ {west : ℕ} {found : Choice} (s : EastTo es finest top west found) where
+    -- The next column is past what is found
+    pub east-past : (east : Lon) → Past found (column (lon west) east)
+    east-past east = past-first (column (lon west) east) found (inr (omega arith)) (s .first) tt
+
     -- One more column
-    pub east-again : {east : ℕ} (next : Choice) {whole : Choice} → west < r .east .0 → east ≡ highSide top west
-        → Best es top finest (column (lon west) (lon east)) next → whole ≡ earlier found next
-        → EastTo es finest top east whole
-    east-again {east} next {whole} less e best whole-is =
+    pub east-again : {east : ℕ} (next : Choice) → west < r .east .0 → east ≡ highSide top west
+        → First es top finest (column (lon west) (lon east)) found next → EastTo es finest top east next
+    east-again {east} next less e first =
         let more : west < east = omega (arith, low-below-high top west (top-level l)) in
         record {
           is = subst (λ (n : ℕ). lowSide top n ≡ n) (sym e) (high-low top (top-level l) west (s .is));
           most = omega (arith, east-most o l (s .is) less);
-          best =
-              subst (Best es top finest (column (lon 0) (lon east))) (sym whole-is)
-              (best-east es top finest (l .coarsest) (column (lon 0) (lon east)) (lon west)
-              (s .is) (omega arith) (omega arith) found next (s .best) best);
+          first = first-lon (l .coarsest) (column (lon 0) (lon east)) found next (lon west) (s .is) (omega arith) (omega arith) (s .first) first;
         }
 
-    -- A cell of the coarsest level is the answer for all ground
-    pub east-found : levelOf found (finestLevel + 1) ≡ top → Best es top finest everywhere found
-    east-found of =
-        best-west es top finest (l .coarsest) everywhere (lon west) (s .is) (omega arith) (s .most) found (s .best) (before found of)
-      where
-        before : (found : Choice) → levelOf found (finestLevel + 1) ≡ top → levelOf found (finest + 1) - 1 < top
-        before (At c) of = omega (arith, l .coarsest)
-        before Nowhere of = omega (arith, l .below, l .most)
-
     -- At the end the ground has been searched
-    pub east-end : r .east .0 ≤ west → Best es top finest everywhere found
+    pub east-end : r .east .0 ≤ west → First es top finest everywhere Nowhere found
     east-end past =
-        best-all finest found (record { west = omega arith; east = s .most; south = omega arith; north = omega arith })
+        first-all found (record { west = omega arith; east = s .most; south = omega arith; north = omega arith })
         (λ d w.
         record {
           west = omega arith;
@@ -255,7 +266,7 @@ module _ {r : Rectangle} {es : List Edge} (o : Over r es) {finest top : ℕ} (l 
           south = w .lies .south;
           north = w .lies .north;
         })
-        (s .best)
+        (s .first)
 
 module _ {r : Rectangle} {es : List Edge} (o : Over r es) where
   -- No cell of the levels that are too wide is inside
@@ -288,23 +299,29 @@ module _ {r : Rectangle} {es : List Edge} (o : Over r es) where
         at (inr h) = absurd (s .none d is t h)
 
     -- A cell found is the chosen one
-    pub levels-found : {found : Choice} {c : Cell} → Best es top finest everywhere found → found ≡ At c
+    pub levels-found : {found : Choice} {c : Cell} → First es top finest everywhere Nowhere found → found ≡ At c
         → choose r es ≡ At c
-    levels-found {found} {c} best is =
-        let b : Best es top finest everywhere (At c) = subst (Best es top finest everywhere) is best in
-        chosen-choose o
-        (record {
-          cell = b .0 .cell;
-          within = holds (b .0 .is);
-          first = λ d k t h. b .1 d (inside-wanted d k (true-of (inside es d) t) (omega (arith, before-most d c h, b .0 .most))) h;
-        })
+    levels-found {found} {c} first is = by (f .origin)
+      where
+        f : First es top finest everywhere Nowhere (At c)
+        f = subst (First es top finest everywhere Nowhere) is first
+
+        by : (At c ≡ Nowhere) ⊎ Gained es top finest everywhere Nowhere (At c) → choose r es ≡ At c
+        by (inl e) = absurd (found-somewhere e)
+        by (inr g) =
+            chosen-choose o
+            (record {
+              cell = g .0 .cell;
+              within = holds (g .0 .is);
+              first = λ d k t h. f .none d (inside-wanted d k (true-of (inside es d) t) (omega (arith, before-most d c h, g .0 .most))) h;
+            })
 
     -- Else no cell of a level up to the finest is inside
-    pub levels-again : {found : Choice} → Best es top finest everywhere found → found ≡ Nowhere → NoneInside es (finest + 1)
-    levels-again {found} best is =
-        let none : Best es top finest everywhere Nowhere = subst (Best es top finest everywhere) is best in
+    pub levels-again : {found : Choice} → First es top finest everywhere Nowhere found → found ≡ Nowhere → NoneInside es (finest + 1)
+    levels-again {found} first is =
+        let f : First es top finest everywhere Nowhere Nowhere = subst (First es top finest everywhere Nowhere) is first in
         record {
           coarsest = omega (arith, l .coarsest, l .below);
           finest = omega (arith, l .most);
-          none = λ d k t h. none d (inside-wanted d k t (omega arith));
+          none = λ d k t h. f .none d (inside-wanted d k t (omega arith)) tt;
         }

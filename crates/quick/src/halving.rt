@@ -69,7 +69,7 @@ pub(crate) fn by_lat(
         return found;
     }
     let own = sorted(numbers, room, half, place, left);
-    let at = ground::lat_split(level + 1, ground);
+    let at = ground::lat_split(level + 1, own.ground);
     if at.0 == north.0 {
         return by_lon(numbers, room, own, sought, left - 1, found);
     }

@@ -1,6 +1,6 @@
 // The edges that are kept for a half, in a lent room: an edge that misses a half misses all in it, and may
 // be left out on the way down. An edge stands there as in a list of edges.
-ghost use Prim.Native.Nat.{_-_, _*_, _≤_, _<_};
+ghost use Prim.Native.Nat.{_+_, _-_, _*_, _≤_, _<_};
 ghost use mathlib.Core.Path.{_≡_};
 ghost use mathlib.Core.Bool.{false, not};
 ghost use lib.ListN.{length};
@@ -24,7 +24,7 @@ pub struct Ends {
 }
 
 // The edge at a place of the room.
-fn ends(room: &[u32], i: usize) -> Ends
+fn edge_at(room: &[u32], i: usize) -> Ends
     requires { ⌜ 4 * i + 4 ≤ length (now room) ⌝ }
     ensures { λ e. ⌜ edge (e .a) (e .b) ≡ edgeIn (now (room .entry)) i ⌝ }
 {
@@ -47,7 +47,7 @@ fn next_near(room: &[u32], ground: Rectangle, from: usize, to: usize) -> usize
 {
     let mut i = from;
     while i < to {
-        let e = ends(room, i);
+        let e = edge_at(room, i);
         if !edge::beyond(e.a, e.b, ground) {
             return i;
         }
@@ -73,7 +73,7 @@ pub(crate) fn first_met(room: &[u32], half: Half) -> usize
     let to = half.to;
     let mut i = next_near(room, ground, half.first, to);
     while i < to {
-        let e = ends(room, i);
+        let e = edge_at(room, i);
         if meets(e.a, e.b, ground) {
             return i;
         }
@@ -93,7 +93,7 @@ pub(crate) fn odd_at(room: &[u32], half: Half, q: Point) -> bool
     let mut odd = half.odd;
     let mut i = half.from;
     while i < to {
-        let e = ends(room, i);
+        let e = edge_at(room, i);
         odd = odd != edge::turns(p, q, east, e.a, e.b);
         i += 1;
     }
@@ -110,7 +110,7 @@ fn keep(room: &mut [u32], ground: Rectangle, from: usize, to: usize) -> usize
     let mut end = to;
     let mut i = from;
     while i < to {
-        let e = ends(room, i);
+        let e = edge_at(room, i);
         if !edge::beyond(e.a, e.b, ground) && meets(e.a, e.b, ground) {
             put_edge(room, end, e.a, e.b);
             end += 1;

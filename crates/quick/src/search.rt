@@ -1,5 +1,15 @@
 // The search for the chosen cell, from the first level whose cells can fit the extents: each level, or some
 // together, by halving the cells of a coarser level that lie over the extents.
+ghost use Prim.Native.Nat.{_+_, _≤_, _<_};
+ghost use mathlib.Core.Path.{_≡_};
+ghost use Rattle.ground.specs.Levels.{coarsestLevel, finestLevel, IsLevel};
+ghost use Rattle.ground.specs.Halves.{Ground};
+ghost use Rattle.boundary.specs.Listed.{boundaryOf};
+ghost use Rattle.chosen.specs.declared.Choice.the-variants.{Nowhere};
+ghost use Rattle.chosen.specs.Chosen.{choose, Over};
+ghost use Rattle.quick.specs.Half.{AllIn};
+ghost use Rattle.quick.specs.First.{First, Past};
+ghost use Rattle.quick.specs.Descent.{Seeks, Levels, Column, column, everywhere, tooWide, TooWideBefore};
 use crate::half::Half;
 use crate::half::Sought;
 use crate::halving::by_lat;
@@ -15,6 +25,7 @@ use ground::Rectangle;
 
 // Whether cells of a level are too wide for the extents.
 fn too_wide(r: Rectangle, level: u32) -> bool
+    ensures { λ u. ⌜ u ≡ tooWide r level ⌝ }
 {
     let west = r.west;
     let east = r.east;
@@ -26,6 +37,8 @@ fn too_wide(r: Rectangle, level: u32) -> bool
 
 // The coarsest level whose cells can fit the extents, or the one after the finest.
 fn first_level(r: Rectangle) -> u32
+    ensures { λ l. ⌜ (coarsestLevel ≤ l) × (l ≤ finestLevel + 1) ⌝ }
+    ensures { λ l. ⌜ TooWideBefore r l ⌝ }
 {
     let mut level = COARSEST;
     while level <= FINEST {
@@ -40,6 +53,7 @@ fn first_level(r: Rectangle) -> u32
 // Whether so many cells of a level in a row are shorter than an extent. It only decides what a search
 // costs, and nothing is promised of it.
 fn short(r: Rectangle, level: u32, cells: u32) -> bool
+    requires { ⌜ 0 < cells ⌝ }
 {
     let west = r.west;
     let east = r.east;
@@ -49,9 +63,11 @@ fn short(r: Rectangle, level: u32, cells: u32) -> bool
     size < ground::apart(west.0, east.0) / cells || size < ground::apart(south.0, north.0) / cells
 }
 
-// A level to start halving from: the finest, up to the one that is searched, whose cells are not
-// smaller than the extents.
+// A level to start halving from: the finest, up to the one that is searched, of which three cells in a row
+// are not shorter than the extents.
 fn top_of(r: Rectangle, level: u32) -> u32
+    requires { ⌜ coarsestLevel ≤ level ⌝ }
+    ensures { λ t. ⌜ (coarsestLevel ≤ t) × (t ≤ level) ⌝ }
 {
     let mut top = level;
     while COARSEST < top {
@@ -63,8 +79,24 @@ fn top_of(r: Rectangle, level: u32) -> u32
     top
 }
 
-
-fn in_cell(numbers: &[u32], room: &mut [u32], count: usize, cell: Rectangle, sought: Sought, top: u32, found: Choice) -> Choice
+// The first of what was found and of what is sought in a cell of the level to start from. The count is even
+// at a corner of the extents that every corner is at or below.
+fn in_cell(
+    numbers: &[u32],
+    room: &mut [u32],
+    count: usize,
+    cell: Rectangle,
+    sought: Sought,
+    top: u32,
+    found: Choice,
+) -> Choice
+    requires { ⌜ AllIn (boundaryOf (now numbers)) (now room) count ⌝ }
+    requires { ⌜ Seeks (boundaryOf (now numbers)) sought ⌝ }
+    requires { ⌜ Levels (sought .finest) top ⌝ }
+    requires { ⌜ Ground top top cell ⌝ }
+    requires { ⌜ Past found cell ⌝ }
+    ensures { λ c. ⌜ First (boundaryOf (now (numbers .entry))) top (sought .finest) cell found c ⌝ }
+    ensures { λ _. ⌜ AllIn (boundaryOf (now (numbers .entry))) (now (room .exit)) count ⌝ }
 {
     let r = sought.extents;
     let north = r.north;
@@ -81,17 +113,42 @@ fn in_cell(numbers: &[u32], room: &mut [u32], count: usize, cell: Rectangle, sou
         first: 0,
         to: count,
     };
-    by_lat(numbers, room, half, sought, 2 * (sought.finest - top), found)
+    by_lat(
+        numbers,
+        room,
+        half,
+        sought,
+        2 * (sought.finest - top),
+        found,
+    )
 }
 
-fn in_column(numbers: &[u32], room: &mut [u32], count: usize, sought: Sought, top: u32, west: Lon, east: Lon, before: Choice) -> Choice
+// The first of what was found before and of what is sought between two sides of the level to start from:
+// that level's south sides in turn.
+fn in_column(
+    numbers: &[u32],
+    room: &mut [u32],
+    count: usize,
+    sought: Sought,
+    top: u32,
+    west: Lon,
+    east: Lon,
+    before: Choice,
+) -> Choice
+    requires { ⌜ AllIn (boundaryOf (now numbers)) (now room) count ⌝ }
+    requires { ⌜ Seeks (boundaryOf (now numbers)) sought ⌝ }
+    requires { ⌜ Levels (sought .finest) top ⌝ }
+    requires { ⌜ Column top west east ⌝ }
+    requires { ⌜ Past before (column west east) ⌝ }
+    ensures { λ c. ⌜ First (boundaryOf (now (numbers .entry))) top (sought .finest) (column west east) before c ⌝ }
+    ensures { λ _. ⌜ AllIn (boundaryOf (now (numbers .entry))) (now (room .exit)) count ⌝ }
 {
-    let r = sought.extents;
-    let from = r.south;
-    let to = r.north;
     if settled(before, west, top, sought) {
         return before;
     }
+    let r = sought.extents;
+    let from = r.south;
+    let to = r.north;
     let mut found = before;
     let mut south = ground::low_side(top, from.0);
     while south < to.0 {
@@ -108,7 +165,13 @@ fn in_column(numbers: &[u32], room: &mut [u32], count: usize, sought: Sought, to
     found
 }
 
+// The first of what is sought: west sides of the level to start from in turn.
 fn in_levels(numbers: &[u32], room: &mut [u32], count: usize, sought: Sought, top: u32) -> Choice
+    requires { ⌜ AllIn (boundaryOf (now numbers)) (now room) count ⌝ }
+    requires { ⌜ Seeks (boundaryOf (now numbers)) sought ⌝ }
+    requires { ⌜ Levels (sought .finest) top ⌝ }
+    ensures { λ c. ⌜ First (boundaryOf (now (numbers .entry))) top (sought .finest) everywhere Nowhere c ⌝ }
+    ensures { λ _. ⌜ AllIn (boundaryOf (now (numbers .entry))) (now (room .exit)) count ⌝ }
 {
     let r = sought.extents;
     let from = r.west;
@@ -117,13 +180,27 @@ fn in_levels(numbers: &[u32], room: &mut [u32], count: usize, sought: Sought, to
     let mut west = ground::low_side(top, from.0);
     while west < to.0 {
         let east = ground::high_side(top, west) as u32;
-        found = in_column(numbers, room, count, sought, top, Lon(west), Lon(east), found);
+        found = in_column(
+            numbers,
+            room,
+            count,
+            sought,
+            top,
+            Lon(west),
+            Lon(east),
+            found,
+        );
         west = east;
     }
     found
 }
 
+// The finest level that is searched together with a level: none but itself while its cells over the extents
+// are few; where they are many, a descent for some levels at once costs little more than one for the last
+// of them, and does not dive far below a coarse cell further on.
 fn finest_with(r: Rectangle, level: u32) -> u32
+    requires { ⌜ IsLevel level ⌝ }
+    ensures { λ f. ⌜ (level ≤ f) × (f ≤ finestLevel) ⌝ }
 {
     if !short(r, level, 14) {
         return level;
@@ -135,13 +212,23 @@ fn finest_with(r: Rectangle, level: u32) -> u32
     }
 }
 
-// The chosen cell: the levels in turn, some together.
+// The chosen cell: the levels in turn, some together. The edges of the boundary, so many, stand at the room's
+// start.
 pub(crate) fn search(numbers: &[u32], room: &mut [u32], count: usize, r: Rectangle) -> Choice
+    requires { ⌜ AllIn (boundaryOf (now numbers)) (now room) count ⌝ }
+    requires { ⌜ Over r (boundaryOf (now numbers)) ⌝ }
+    ensures { λ c. ⌜ c ≡ choose r (boundaryOf (now (numbers .entry))) ⌝ }
 {
     let mut level = first_level(r);
     while level <= FINEST {
         let finest = finest_with(r, level);
-        let found = in_levels(numbers, room, count, Sought { extents: r, coarsest: level, finest, least: ground::narrowest(finest) }, top_of(r, level));
+        let sought = Sought {
+            extents: r,
+            coarsest: level,
+            finest,
+            least: ground::narrowest(finest),
+        };
+        let found = in_levels(numbers, room, count, sought, top_of(r, level));
         if let Choice::At(c) = found {
             return Choice::At(c);
         }

@@ -1,26 +1,22 @@
--- `quick::halves::east_half` meets its contract: a part of the half. Assumes nothing.
-use mathlib.Core.Path.{sym, subst, _∙_}
-use Rattle.quick.specs.Half.{Part}
-use Rattle.quick.specs.HalfLaws.{east-part}
 use borrow.Author.Needs.{needs}
 use Rattle.quick.proofs.halves.east_half.Statement.{statement}
 use Rattle.quick.proofs.halves.east_half.Tie as tie
+use Rattle.quick.proofs.halves.east_half.Reads as reads
+use Rattle.quick.proofs.halves.east_half.Lts as lts
+use Rattle.ground.proofs.east_of.Reads as east-of-reads
+use Rattle.quick.proofs.halves.part_of.Reads as part-of-reads
 
+-- src/halves.rt:71:19
 east-of-requires : tie.Need-east-of-requires
 east-of-requires c κs = search needs
 
+-- src/halves.rt:71:5
 part-of-requires : tie.Need-part-of-requires
-part-of-requires c κs =
-    let start = c .before .before .before .before in
-    (start .pre .0, subst (Part (start .args .half)) (sym (c .east-of .ensures)) (east-part (start .pre .0) (start .args .at) (start .pre .1)))
+part-of-requires c κs = search needs
 
-same-length : tie.Need-same-length
-same-length c = search needs
-
+-- src/halves.rt:68:1
 returns : tie.Need-returns
-returns c =
-    let part = c .before .before in
-    ((part .part-of .ensures .0 .0 ∙ part .before .east-of .ensures, part .part-of .ensures .0 .1), part .part-of .ensures .1)
+returns c = ?
 
 pub east-half-spec : {M : Type 1} → statement M
-east-half-spec = tie.close (tie.spec east-of-requires part-of-requires same-length returns)
+east-half-spec = tie.close (tie.spec east-of-requires part-of-requires returns)

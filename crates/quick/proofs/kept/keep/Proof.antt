@@ -1,89 +1,61 @@
--- `quick::kept::keep` meets its contract: the edges put behind the half's, with those still to be seen, are kept. Assumes nothing.
-use borrow.Author.Needs.{needs}
-use Prim.Native.Nat.{_-_}
-use native.Mathlib.Omega.{arith}
-use mathlib.Core.Path.{_≡_, ap, ap₂, _∙_}
-use mathlib.Core.Logic.{⊎-elim}
-use Rattle.edge.specs.Edge.{edge}
-use Rattle.boundary.specs.Listed.{edgesIn, edgeIn}
-use Rattle.quick.specs.HalfLaws.{Moved, moved-begin, moved-clear, moved-added, moved-end, moved-as, moved-full}
 use Rattle.quick.proofs.kept.keep.Statement.{statement}
 use Rattle.quick.proofs.kept.keep.Tie as tie
+use Rattle.quick.proofs.kept.keep.Reads as reads
+use Rattle.quick.proofs.kept.keep.Lts as lts
+use Rattle.boundary.proofs.put_edge.Reads as put-edge-reads
+use Rattle.edge.proofs.beyond.Reads as beyond-reads
+use Rattle.quick.proofs.kept.edge_at.Reads as edge-at-reads
+use Rattle.quick.proofs.kept.meets.Reads as meets-reads
 
 abbrev Inv-loop : tie.InvT-loop
-Inv-loop edges room₀ part from to end₀ i₀ room end i = Moved (edgesIn edges) room₀ room part to end i
+Inv-loop room₀ ground from to end₀ i₀ room end i = ?
 
 abbrev μ-loop : tie.MeasureT-loop
-μ-loop edges room₀ part from to end₀ i₀ room end i = to - i
+μ-loop room₀ ground from to end₀ i₀ room end i = ?
 
--- the edge at the loop's place
-seen : (c : tie.After-corner2 Inv-loop μ-loop)
-    → edge (c .before .before .corner .result) (c .corner2 .result) ≡ edgeIn (c .before .before .before .before .before .loop .room) (c .before .before .before .before .before .loop .i)
-seen c = ap₂ edge (c .before .before .corner .ensures) (c .corner2 .ensures)
-
+-- src/kept.rt:112:5
 loop-holds : tie.Need-loop-holds Inv-loop μ-loop
-loop-holds c =
-    let start = c .before .before in
-    moved-begin (start .pre .0) (start .pre .1)
+loop-holds c = ?
 
-mul-corner : tie.Need-mul-corner Inv-loop μ-loop
-mul-corner c =
-    omega (arith, c .before .loop-test .taken, c .before .before .loop .inv .first, c .before .before .loop .inv .last)
+-- src/kept.rt:113:13
+edge-at-requires : tie.Need-edge-at-requires Inv-loop μ-loop
+edge-at-requires c κs = ?
 
-corner-requires : tie.Need-corner-requires Inv-loop μ-loop
-corner-requires c κs = search needs
+-- src/kept.rt:114:13
+beyond-requires : tie.Need-beyond-requires Inv-loop μ-loop
+beyond-requires c κs = ?
 
-mul-corner-2 : tie.Need-mul-corner-2 Inv-loop μ-loop
-mul-corner-2 c =
-    omega (arith, c .before .before .before .loop-test .taken, c .before .before .before .before .loop .inv .first, c .before .before .before .before .loop .inv .last)
+-- src/kept.rt:114:47
+meets-requires : tie.Need-meets-requires Inv-loop μ-loop
+meets-requires c κs = ?
 
-add-corner : tie.Need-add-corner Inv-loop μ-loop
-add-corner c =
-    omega (arith, c .before .before .before .loop-test .taken, c .before .before .before .before .loop .inv .first, c .before .before .before .before .loop .inv .last)
-
-corner-requires-2 : tie.Need-corner-requires-2 Inv-loop μ-loop
-corner-requires-2 c κs = search needs
-
-clear-requires : tie.Need-clear-requires Inv-loop μ-loop
-clear-requires c κs = search needs
-
-same-length : tie.Need-same-length Inv-loop μ-loop
-same-length c = c .before .before .before .before .before .before .before .before .loop .inv .long
-
-returns : tie.Need-returns Inv-loop μ-loop
-returns c =
-    let at = c .before .before .before .before .before .before .before .before in
-    let start = at .before .before .before in
-    (moved-full (start .pre .0) (start .pre .1) (at .loop .inv), (search needs, at .loop .inv .same))
-
+-- src/kept.rt:115:13
 put-edge-requires : tie.Need-put-edge-requires Inv-loop μ-loop
-put-edge-requires c κs = search needs
+put-edge-requires c κs = ?
 
+-- src/kept.rt:116:13
 add-end : tie.Need-add-end Inv-loop μ-loop
-add-end c = search needs
+add-end c = ?
 
+-- src/kept.rt:118:9
 add-i : tie.Need-add-i Inv-loop μ-loop
-add-i c = search needs
+add-i c = ?
 
+-- src/kept.rt:112:5
 loop-less : tie.Need-loop-less Inv-loop μ-loop
-loop-less c = search needs
+loop-less c = ?
 
+-- src/kept.rt:112:5
 loop-again : tie.Need-loop-again Inv-loop μ-loop
-loop-again c =
-    let ends = c .before .before in
-    let at = ends .before .before .before .before in
-    let m = at .before .loop .inv in
-    ⊎-elim
-    (λ w. moved-as (w .6 ∙ w .3 .ensures) (w .7) (moved-added m (at .loop-test .taken) (omega (arith, w .1 .left)) (seen ends)))
-    (λ w. moved-as (w .1) (w .2) (moved-clear m (at .loop-test .taken) (c .before .clear .ensures) (seen ends) (w .0 .left)))
-    (c .if1 .came)
+loop-again c = ?
 
-same-length-2 : tie.Need-same-length-2 Inv-loop μ-loop
-same-length-2 c = c .before .loop .inv .long
+-- src/kept.rt:104:1
+same-length : tie.Need-same-length Inv-loop μ-loop
+same-length c = ?
 
-returns-2 : tie.Need-returns-2 Inv-loop μ-loop
-returns-2 c =
-    (moved-end (c .before .loop .inv) (c .loop-test .left), (c .before .loop .inv .first, c .before .loop .inv .same))
+-- src/kept.rt:104:1
+returns : tie.Need-returns Inv-loop μ-loop
+returns c = ?
 
 pub keep-spec : {M : Type 1} → statement M
 keep-spec =
@@ -92,18 +64,13 @@ keep-spec =
     Inv-loop
     μ-loop
     loop-holds
-    mul-corner
-    corner-requires
-    mul-corner-2
-    add-corner
-    corner-requires-2
-    clear-requires
-    same-length
-    returns
+    edge-at-requires
+    beyond-requires
+    meets-requires
     put-edge-requires
     add-end
     add-i
     loop-less
     loop-again
-    same-length-2
-    returns-2)
+    same-length
+    returns)
