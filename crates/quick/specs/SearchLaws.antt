@@ -278,6 +278,11 @@ module _ {r : Rectangle} {es : List Edge} (o : Over r es) where
         none = λ d is t less. wide-none o d is t (unfit (d .level) less (is .level .coarsest));
       }
 
+  -- What is sought from such a level on is so
+  pub seeks-begin : {level finest least : ℕ} → NoneInside es level → (level ≤ finest) × (finest ≤ finestLevel) → least ≡ narrowest finest
+      → Seeks es (record { extents = r; coarsest = level; finest = finest; least = least })
+  seeks-begin none h e = record { over = o; none = none; most = h .1; least = e }
+
   -- Where none of a level up to 27 is, there is no chosen cell
   pub levels-end : {level : ℕ} → NoneInside es level → finestLevel < level → choose r es ≡ Nowhere
   levels-end s past = none-choose o λ d is t. s .none d is (true-of (inside es d) t) (omega (arith, is .level .finest))
