@@ -2,7 +2,7 @@
 use borrow.Author.Needs.{needs}
 use Prim.Native.Nat.{_-_, _≤_}
 use native.Mathlib.Omega.{arith}
-use mathlib.Core.Path.{_≡_, sym, _∙_}
+use mathlib.Core.Path.{_≡_}
 use lib.ListN.{length}
 use Rattle.ground.specs.Levels.{latEnd}
 use Rattle.ground.specs.CellsLaws.{low-below-high}
@@ -35,7 +35,7 @@ settled-requires c κs = search needs
 returns : tie.Need-returns Inv-loop μ-loop
 returns c =
     let pre = c .before .before .before .before .pre in
-    (settled-first (pre .1 .0) (pre .1 .1 .1 .1) (sym (c .before .settled .ensures) ∙ c .if1 .taken), pre .0)
+    (settled-first (pre .1 .0) (pre .1 .1 .1 .1) (cc (c .before .settled .ensures, c .if1 .taken)), pre .0)
 
 low-side-requires : tie.Need-low-side-requires Inv-loop μ-loop
 low-side-requires c κs = search needs
