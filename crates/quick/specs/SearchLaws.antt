@@ -6,9 +6,8 @@ use native.Mathlib.Omega.{arith}
 use mathlib.Core.Path.{_≡_, refl, sym, ap, subst, _∙_}
 use mathlib.Core.Logic.{_⊎_, inl, inr}
 use mathlib.Core.Bool.{Bool, true, false, _||_}
-use mathlib.Core.List.{List, [], _∷_}
+use mathlib.Core.List.{List}
 use lib.Dec.{ltb}
-use lib.ListN.{length}
 use borrow.Author.Tests.{ltb-true}
 use Rattle.facts.specs.Tests.{either, true-of, holds}
 use Rattle.facts.specs.Numbers.{either-way}
@@ -17,11 +16,11 @@ use Rattle.ground.specs.declared.Lon.{Lon}
 use Rattle.ground.specs.declared.Rectangle.{Rectangle}
 use Rattle.ground.specs.declared.Cell.{Cell}
 use Rattle.ground.specs.Levels.{lat, lon, latEnd, lonEnd, distance, coarsestLevel, finestLevel, IsLevel}
-use Rattle.ground.specs.Rectangles.{Within, Ordered, at}
+use Rattle.ground.specs.Rectangles.{Within, at}
 use Rattle.ground.specs.Cells.{lowSide, highSide, sidesOf, IsCell}
 use Rattle.ground.specs.CellsLaws.{low-below-high, cell-wide}
 use Rattle.ground.specs.SidesLaws.{low-most, low-low, high-low, side-end}
-use Rattle.ground.specs.Halves.{Span, Ground, narrowest}
+use Rattle.ground.specs.Halves.{Ground, narrowest}
 use Rattle.ground.specs.HalvesLaws.{narrow-wide}
 use Rattle.edge.specs.Edge.{Edge}
 use Rattle.boundary.specs.Boundary.{inside}
