@@ -6,9 +6,8 @@ use native.Mathlib.Omega.{arith}
 use mathlib.Core.Path.{_≡_, refl, sym, ap, subst, _∙_}
 use mathlib.Core.Logic.{_⊎_, inl, inr}
 use mathlib.Core.Bool.{Bool, true, false, _||_}
-use mathlib.Core.List.{List, [], _∷_}
+use mathlib.Core.List.{List}
 use lib.Dec.{ltb}
-use lib.ListN.{length}
 use borrow.Author.Tests.{ltb-true}
 use Rattle.facts.specs.Tests.{either, true-of, holds}
 use Rattle.facts.specs.Numbers.{either-way}
@@ -17,11 +16,11 @@ use Rattle.ground.specs.declared.Lon.{Lon}
 use Rattle.ground.specs.declared.Rectangle.{Rectangle}
 use Rattle.ground.specs.declared.Cell.{Cell}
 use Rattle.ground.specs.Levels.{lat, lon, latEnd, lonEnd, distance, coarsestLevel, finestLevel, IsLevel}
-use Rattle.ground.specs.Rectangles.{Within, Ordered, at}
+use Rattle.ground.specs.Rectangles.{Within, at}
 use Rattle.ground.specs.Cells.{lowSide, highSide, sidesOf, IsCell}
 use Rattle.ground.specs.CellsLaws.{low-below-high, cell-wide}
 use Rattle.ground.specs.SidesLaws.{low-most, low-low, high-low, side-end}
-use Rattle.ground.specs.Halves.{Span, Ground, narrowest}
+use Rattle.ground.specs.Halves.{Ground, narrowest}
 use Rattle.ground.specs.HalvesLaws.{narrow-wide}
 use Rattle.edge.specs.Edge.{Edge}
 use Rattle.boundary.specs.Boundary.{inside}
@@ -277,6 +276,11 @@ module _ {r : Rectangle} {es : List Edge} (o : Over r es) where
         finest = h .1;
         none = λ d is t less. wide-none o d is t (unfit (d .level) less (is .level .coarsest));
       }
+
+  -- What is sought from such a level on is so
+  pub seeks-begin : {level finest least : ℕ} → NoneInside es level → (level ≤ finest) × (finest ≤ finestLevel) → least ≡ narrowest finest
+      → Seeks es (record { extents = r; coarsest = level; finest = finest; least = least })
+  seeks-begin none h e = record { over = o; none = none; most = h .1; least = e }
 
   -- Where none of a level up to 27 is, there is no chosen cell
   pub levels-end : {level : ℕ} → NoneInside es level → finestLevel < level → choose r es ≡ Nowhere

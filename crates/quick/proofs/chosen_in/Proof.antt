@@ -1,28 +1,44 @@
+-- `quick::chosen_in` meets its contract: the edges listed are the boundary's. Assumes nothing.
+use Prim.Native.Nat.{ℕ, _*_, _≤_}
+use native.Mathlib.Omega.{arith}
+use mathlib.Core.Path.{_≡_, ap₂, _∙_}
+use mathlib.Core.List.{List}
+use lib.ListN.{length, take}
 use borrow.Author.Needs.{needs}
+use Rattle.boundary.specs.Listed.{edgesIn}
+use Rattle.boundary.specs.ListedLaws.{have-room, listed-boundary, listed-fits}
+use Rattle.quick.specs.HalfLaws.{kept-listed}
 use Rattle.quick.proofs.chosen_in.Statement.{statement}
 use Rattle.quick.proofs.chosen_in.Tie as tie
-use Rattle.quick.proofs.chosen_in.Reads as reads
-use Rattle.quick.proofs.chosen_in.Lts as lts
-use Rattle.boundary.proofs.list_edges.Reads as list-edges-reads
-use Rattle.quick.proofs.search.search.Reads as search-reads
 
--- src/lib.rt:28:9
 list-edges-requires : tie.Need-list-edges-requires
 list-edges-requires c κs = search needs
 
--- src/lib.rt:29:5
 search-requires : tie.Need-search-requires
-search-requires c κs = ?
+search-requires c κs =
+    let listed = c .before .before .before .before .before .list-edges in
+    let start = c .before .before .before .before .before .before .before .before .before .before .before in
+    let a = start .args in
+    let long : length (listed .last .1 .0) ≡ length (a .room .now) = search needs in
+    let fits : 4 * listed .result ≤ length (listed .last .1 .0) =
+    omega (arith, listed .ensures .0, listed-fits (a .numbers .now) (a .room .now) (a .places .now)) in (
+      record {
+        fits = fits;
+        all =
+            kept-listed (listed .last .1 .0) (listed .result) fits
+            ∙ ap₂ (λ (n : ℕ) (ns : List ℕ). edgesIn (take (4 * n) ns)) (listed .ensures .0) (listed .ensures .1 .0)
+            ∙ listed-boundary (a .numbers .now) (a .room .now) (a .places .now)
+            (have-room (a .numbers .now) (a .room .now) (a .places .now) (start .pre .1 .0) (start .pre .1 .1));
+      },
+      start .pre .0,
+    )
 
--- src/lib.rt:23:1
 same-length : tie.Need-same-length
 same-length c = search needs
 
--- src/lib.rt:23:1
 same-length-2 : tie.Need-same-length-2
 same-length-2 c = search needs
 
--- src/lib.rt:23:1
 returns : tie.Need-returns
 returns c = search needs
 

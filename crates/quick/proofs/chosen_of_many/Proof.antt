@@ -10,13 +10,10 @@ slice-aggregate-chosen-in c = search needs
 slice-aggregate-chosen-in-2 : tie.Need-slice-aggregate-chosen-in-2
 slice-aggregate-chosen-in-2 c = search needs
 
-slice-aggregate-chosen-in-3 : tie.Need-slice-aggregate-chosen-in-3
-slice-aggregate-chosen-in-3 c = search needs
-
 chosen-in-requires : tie.Need-chosen-in-requires
 chosen-in-requires c κs =
-    let start = c .before .before .before .before in
-    (start .pre .0, ((start .pre .1, start .pre .1), omega (arith, start .pre .1)))
+    let pre = c .before .before .before .pre in
+    (pre .0, (omega (arith, pre .1), pre .1))
 
 returns : tie.Need-returns
 returns c = search needs
@@ -27,6 +24,5 @@ chosen-of-many-spec =
     (tie.spec
     slice-aggregate-chosen-in
     slice-aggregate-chosen-in-2
-    slice-aggregate-chosen-in-3
     chosen-in-requires
     returns)

@@ -1,77 +1,98 @@
+-- `quick::search::search` meets its contract: no cell of a level before `level` is inside. Assumes nothing.
+use borrow.Author.Needs.{needs}
+use Prim.Native.Nat.{_+_, _-_}
+use native.Mathlib.Omega.{arith}
+use mathlib.Core.Path.{_≡_, sym}
+use lib.ListN.{length}
+use Rattle.ground.specs.Levels.{finestLevel}
+use Rattle.boundary.specs.Listed.{boundaryOf}
+use Rattle.quick.specs.Half.{AllIn}
+use Rattle.quick.specs.Descent.{Levels, NoneInside}
+use Rattle.quick.specs.SearchLaws.{seeks-begin, levels-begin, levels-found, levels-again, levels-end}
 use Rattle.quick.proofs.search.search.Statement.{statement}
 use Rattle.quick.proofs.search.search.Tie as tie
-use Rattle.quick.proofs.search.search.Reads as reads
-use Rattle.quick.proofs.search.search.Lts as lts
-use Rattle.ground.proofs.narrowest.Reads as narrowest-reads
-use Rattle.quick.proofs.search.finest_with.Reads as finest-with-reads
-use Rattle.quick.proofs.search.first_level.Reads as first-level-reads
-use Rattle.quick.proofs.search.in_levels.Reads as in-levels-reads
-use Rattle.quick.proofs.search.top_of.Reads as top-of-reads
 
 abbrev Inv-loop : tie.InvT-loop
-Inv-loop numbers room₀ count r level₀ room level = ?
+Inv-loop numbers room₀ count r level₀ room level =
+    AllIn (boundaryOf numbers) room count × (length room ≡ length room₀) × NoneInside (boundaryOf numbers) level
 
 abbrev μ-loop : tie.MeasureT-loop
-μ-loop numbers room₀ count r level₀ room level = ?
+μ-loop numbers room₀ count r level₀ room level = finestLevel + 1 - level
 
--- src/search.rt:222:9
+-- the levels that are searched together
+levels : (c : tie.After-top-of Inv-loop μ-loop) → Levels (c .before .before .before .finest-with .result) (c .top-of .result)
+levels c =
+    let some = c .before .before .before .finest-with in
+    record { coarsest = c .top-of .ensures .0; below = omega (arith, c .top-of .ensures .1, some .ensures .0); most = some .ensures .1 }
+
 first-level-requires : tie.Need-first-level-requires Inv-loop μ-loop
-first-level-requires c κs = ?
+first-level-requires c κs = search needs
 
--- src/search.rt:223:5
 loop-holds : tie.Need-loop-holds Inv-loop μ-loop
-loop-holds c = ?
+loop-holds c =
+    let pre = c .before .before .before .pre in
+    (pre .0, search needs, levels-begin (pre .1) (c .first-level .ensures .0) (c .first-level .ensures .1))
 
--- src/search.rt:224:13
 finest-with-requires : tie.Need-finest-with-requires Inv-loop μ-loop
-finest-with-requires c κs = ?
+finest-with-requires c κs = omega (arith, c .before .loop .inv .2 .coarsest, c .loop-test .taken)
 
--- src/search.rt:229:20
 narrowest-requires : tie.Need-narrowest-requires Inv-loop μ-loop
-narrowest-requires c κs = ?
+narrowest-requires c κs = search needs
 
--- src/search.rt:231:61
 top-of-requires : tie.Need-top-of-requires Inv-loop μ-loop
-top-of-requires c κs = ?
+top-of-requires c κs = c .before .before .before .before .loop .inv .2 .coarsest
 
--- src/search.rt:231:13
 in-levels-requires : tie.Need-in-levels-requires Inv-loop μ-loop
-in-levels-requires c κs = ?
+in-levels-requires c κs =
+    let narrow = c .before .before in
+    let some = narrow .before in
+    let loop = some .before .before in
+    let pre = loop .before .before .before .before .pre in
+    (loop .loop .inv .0, (seeks-begin (pre .1) (loop .loop .inv .2) (some .finest-with .ensures) (narrow .narrowest .ensures), levels c))
 
--- src/search.rt:232:27
 enum-known-found : tie.Need-enum-known-found Inv-loop μ-loop
-enum-known-found c = ?
+enum-known-found c = search needs
 
--- src/search.rt:233:13
 same-length : tie.Need-same-length Inv-loop μ-loop
-same-length c = ?
+same-length c = search needs
 
--- src/search.rt:233:13
 returns : tie.Need-returns Inv-loop μ-loop
-returns c = ?
+returns c =
+    let searched = c .before .before .before .before .before in
+    let top = searched .before in
+    let loop = top .before .before .before .before .before in
+    let pre = loop .before .before .before .before .pre in
+    sym (levels-found (pre .1) (loop .loop .inv .2) (levels top) (top .top-of .ensures .1) (searched .in-levels .ensures .0) (c .before .found .given .1))
 
 enum-told : tie.Need-enum-told Inv-loop μ-loop
-enum-told c = ?
+enum-told c = search needs
 
--- src/search.rt:235:17
 add-level : tie.Need-add-level Inv-loop μ-loop
-add-level c = ?
+add-level c = omega (arith, c .before .before .before .before .before .before .before .before .finest-with .ensures .1)
 
--- src/search.rt:223:5
 loop-less : tie.Need-loop-less Inv-loop μ-loop
-loop-less c = ?
+loop-less c =
+    let some = c .before .before .before .before .before .before .before .before .finest-with in
+    omega (arith, some .ensures .0, some .ensures .1)
 
--- src/search.rt:223:5
 loop-again : tie.Need-loop-again Inv-loop μ-loop
-loop-again c = ?
+loop-again c =
+    let searched = c .before .before .before .before in
+    let top = searched .before in
+    let loop = top .before .before .before .before .before in
+    let pre = loop .before .before .before .before .pre in (
+      searched .in-levels .ensures .1,
+      search needs,
+      levels-again (pre .1) (loop .loop .inv .2) (levels top) (top .top-of .ensures .1) (searched .in-levels .ensures .0) (c .enum-told .given .1),
+    )
 
--- src/search.rt:217:1
 same-length-2 : tie.Need-same-length-2 Inv-loop μ-loop
-same-length-2 c = ?
+same-length-2 c = search needs
 
--- src/search.rt:217:1
 returns-2 : tie.Need-returns-2 Inv-loop μ-loop
-returns-2 c = ?
+returns-2 c =
+    let pre = c .before .before .before .before .before .pre in
+    sym (levels-end (pre .1) (c .before .loop .inv .2) (omega (arith, c .loop-test .left)))
 
 pub search-spec : {M : Type 1} → statement M
 search-spec =
