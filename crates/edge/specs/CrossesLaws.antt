@@ -7,7 +7,7 @@ use mathlib.Core.Logic.{_⊎_, inl, inr}
 use mathlib.Core.Bool.{Bool, true, false, cond, not, _&&_, _||_, and-true, and-false, or-false, or-comm, false≢true}
 use lib.Dec.{leb}
 use borrow.Author.Tests.{leb-true, leb-false, le-leb, lt-leb, lt-ltb, le-ltb}
-use Rattle.facts.specs.Tests.{differ, differ-self, differ-comm, exchange}
+use Rattle.facts.specs.Tests.{differ, differ-self, differ-none, differ-comm, exchange}
 use Rattle.facts.specs.Numbers.{product-le, product-lt, either-way}
 use Rattle.ground.specs.declared.Lon.{Lon}
 use Rattle.ground.specs.declared.Point.{Point}
@@ -273,11 +273,28 @@ module _ {r : Rectangle} {p q : Point} (in-p : Lies r p) (in-q : Lies r q) where
       ap (λ (x : Bool). differ x ends) (tells e (missed e r t)) ∙ differ-self ends
 
 -- Where neither latitude is between the ends of an edge, nothing is crossed, and the ends alone turn the count
-pub turns-ends : (side : Lon) (p q : Point) (e : Edge) → differ (low (e .start) p) (low (e .end) p) ≡ false
+turns-ends : (side : Lon) (p q : Point) (e : Edge) → differ (low (e .start) p) (low (e .end) p) ≡ false
     → differ (low (e .start) q) (low (e .end) q) ≡ false
     → turns side p q e ≡ differ (between side p q (e .start)) (between side p q (e .end))
 unfolding turns
 turns-ends side p q e h k = rw (same-none e p h, same-none e q k)
+
+-- They do where the latitudes part them, both alike, and one of them alone is at or beyond the east side
+pub turns-parted : (side : Lon) (p q : Point) (e : Edge) → differ (low (e .start) p) (low (e .end) p) ≡ false
+    → differ (low (e .start) q) (low (e .end) q) ≡ false
+    → turns side p q e
+    ≡ (differ (low (e .start) p) (low (e .start) q) && differ (leb (side .0) (e .start .lon .0)) (leb (side .0) (e .end .lon .0)))
+turns-parted side p q e h k =
+    turns-ends side p q e h k
+    ∙ ap (λ (t : Bool). differ (between side p q (e .start)) (leb (side .0) (e .end .lon .0) && t)) (sym alike)
+    ∙ shared (leb (side .0) (e .start .lon .0)) (leb (side .0) (e .end .lon .0)) (differ (low (e .start) p) (low (e .start) q))
+  where
+    alike : differ (low (e .start) p) (low (e .start) q) ≡ differ (low (e .end) p) (low (e .end) q)
+    alike = ap₂ differ (differ-none (low (e .start) p) (low (e .end) p) h) (differ-none (low (e .start) q) (low (e .end) q) k)
+
+    shared : (a b c : Bool) → differ (a && c) (b && c) ≡ (c && differ a b)
+    shared a b true = ap₂ differ (and-true a) (and-true b)
+    shared a b false = ap₂ differ (and-false a) (and-false b)
 
 -- An edge of no length crosses nothing
 pub crosses-one-point : (q a : Point) → crossesEast q (edge a a) ≡ false

@@ -2,7 +2,7 @@
 use Prim.Native.Nat.{ℕ, _≤_, min, max}
 use mathlib.Core.Path.{_≡_}
 use mathlib.Core.Bool.{Bool, not, _&&_, _||_}
-use lib.Dec.{eqb, leb}
+use lib.Dec.{eqb, leb, ltb}
 use Rattle.facts.specs.Tests.{differ}
 use Rattle.ground.specs.declared.Lon.{Lon}
 use Rattle.ground.specs.declared.Point.{Point}
@@ -43,6 +43,17 @@ misses e r = beyond e r || allLeft (e .start) (e .end) r || allLeft (e .end) (e 
 -- Otherwise it meets it
 abbrev pub meets : Edge → Rectangle → Bool
 meets e r = not (misses e r)
+
+-- A number strictly between two others, and a point strictly within a rectangle
+abbrev pub strictlyBetween : ℕ → ℕ → ℕ → Bool
+strictlyBetween low n high = ltb low n && ltb n high
+
+abbrev pub strictlyWithin : Rectangle → Point → Bool
+strictlyWithin r p = strictlyBetween (r .west .0) (p .lon .0) (r .east .0) && strictlyBetween (r .south .0) (p .lat .0) (r .north .0)
+
+-- An edge that has a length, with an end strictly within a rectangle
+abbrev pub endWithin : Edge → Rectangle → Bool
+endWithin e r = (strictlyWithin r (e .start) || strictlyWithin r (e .end)) && not (noLength e)
 
 -- Odd count: an edge with exactly one end at or below a point's latitude, the first or the second, that crosses it strictly east of it
 unfoldable pub crossesEast : Point → Edge → Bool

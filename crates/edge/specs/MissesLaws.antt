@@ -13,7 +13,7 @@ use Rattle.ground.specs.declared.Rectangle.{Rectangle}
 use Rattle.ground.specs.Rectangles.{Within, Holds, Ordered, Wide, at}
 use Rattle.ground.specs.RectanglesLaws.{holds-within, wide-ordered}
 use Rattle.side.specs.Side.{leftSum, rightSum, leftOrOn, Leftward}
-use Rattle.edge.specs.Edge.{Edge, edge, noLength, allLeft, beyond, misses}
+use Rattle.edge.specs.Edge.{Edge, edge, noLength, allLeft, beyond, misses, strictlyBetween, strictlyWithin, endWithin}
 use Rattle.facts.specs.Numbers.{Compared, less, same, more, compared, product-le, product-lt, either-way}
 
 -- Each point of a rectangle is left of the line from a to b, or on it
@@ -215,14 +215,7 @@ misses-other-way r o a b =
     same-truth (λ t. misses-so (edge b a) r o (missed-back (missed (edge a b) r t)))
     (λ t. misses-so (edge a b) r o (missed-back (missed (edge b a) r t)))
 
--- A number strictly between two others, and a point strictly within a rectangle
-abbrev pub strictlyBetween : ℕ → ℕ → ℕ → Bool
-strictlyBetween low n high = ltb low n && ltb n high
-
-abbrev pub strictlyWithin : Rectangle → Point → Bool
-strictlyWithin r p = strictlyBetween (r .west .0) (p .lon .0) (r .east .0) && strictlyBetween (r .south .0) (p .lat .0) (r .north .0)
-
--- The same as a statement
+-- A point strictly within a rectangle, as a statement
 record Strictly (r : Rectangle) (p : Point) : Type 0 where
   west : r .west .0 < p .lon .0
   east : p .lon .0 < r .east .0
@@ -267,11 +260,7 @@ missed-start h (north k l) = absurd (omega arith)
 missed-start {r} {a} {b} h (onLeft l) = (through-level h a b (omega arith) l, through-upright h a b (omega arith) l)
 missed-start {r} {a} {b} h (onRight l) = (sym (through-level h b a (omega arith) l), sym (through-upright h b a (omega arith) l))
 
--- An edge that has a length, with an end strictly within a rectangle
-abbrev pub endWithin : Edge → Rectangle → Bool
-endWithin e r = (strictlyWithin r (e .start) || strictlyWithin r (e .end)) && not (noLength e)
-
--- Such an edge meets the rectangle
+-- An edge that has a length, with an end strictly within a rectangle, meets it
 pub misses-end : (a b : Point) (r : Rectangle) → endWithin (edge a b) r ≡ true → misses (edge a b) r ≡ false
 misses-end a b r t = at (misses (edge a b) r) refl
   where

@@ -6,9 +6,8 @@ ghost use lib.Dec.{leb};
 ghost use Rattle.facts.specs.Tests.{differ};
 ghost use Rattle.ground.specs.Rectangles.{Ordered};
 ghost use Rattle.side.specs.Side.{left as Side·left};
-ghost use Rattle.edge.specs.Edge.{edge, noLength, beyond as Edge·beyond, allLeft, misses as Edge·misses, crossesEast, low, between as Edge·between, turns as Edge·turns};
+ghost use Rattle.edge.specs.Edge.{edge, noLength, beyond as Edge·beyond, allLeft, misses as Edge·misses, strictlyBetween, strictlyWithin, endWithin, crossesEast, low, between as Edge·between, turns as Edge·turns};
 ghost use Rattle.edge.specs.Extreme.{extremeLat, extremeLon};
-ghost use Rattle.edge.specs.MissesLaws.{strictlyBetween, strictlyWithin, endWithin};
 use ground::Lat;
 use ground::Lon;
 use ground::Point;
@@ -20,6 +19,20 @@ fn both_most(a: u32, b: u32, c: u32, d: u32) -> bool
     ensures { λ r. ⌜ r ≡ (leb a b && leb c d) ⌝ }
 {
     a <= b && c <= d
+}
+
+// Whether two numbers are both at most a third: the greater tells.
+fn most(a: u32, b: u32, third: u32) -> bool
+    ensures { λ r. ⌜ r ≡ (leb a third && leb b third) ⌝ }
+{
+    ground::greater(a, b) <= third
+}
+
+// Whether they are both at least a third: the lesser tells.
+fn least(a: u32, b: u32, third: u32) -> bool
+    ensures { λ r. ⌜ r ≡ (leb third a && leb third b) ⌝ }
+{
+    third <= ground::lesser(a, b)
 }
 
 // Whether both ends of an edge are beyond one side of a rectangle.
@@ -34,16 +47,16 @@ pub fn beyond(a: Point, b: Point, r: Rectangle) -> bool
     let east = r.east;
     let south = r.south;
     let north = r.north;
-    if both_most(a_lon.0, west.0, b_lon.0, west.0) {
+    if most(a_lon.0, b_lon.0, west.0) {
         return true;
     }
-    if both_most(east.0, a_lon.0, east.0, b_lon.0) {
+    if least(a_lon.0, b_lon.0, east.0) {
         return true;
     }
-    if both_most(a_lat.0, south.0, b_lat.0, south.0) {
+    if most(a_lat.0, b_lat.0, south.0) {
         return true;
     }
-    both_most(north.0, a_lat.0, north.0, b_lat.0)
+    least(a_lat.0, b_lat.0, north.0)
 }
 
 // The latitude of the corner that is furthest right of the line from a to b.
@@ -202,25 +215,40 @@ pub fn crosses_east(p: Point, a: Point, b: Point) -> bool
     straddles(p, a, b) && passes_east(p, a, b)
 }
 
+// Whether a corner is at or below the latitude of one of two points alone.
+fn parted(p: Point, q: Point, v: Point) -> bool
+    ensures { λ m. ⌜ m ≡ differ (low v p) (low v q) ⌝ }
+{
+    let height = v.lat;
+    let p_lat = p.lat;
+    let q_lat = q.lat;
+    (height.0 <= p_lat.0) != (height.0 <= q_lat.0)
+}
+
+// Whether a corner is at or beyond an east side.
+fn past_east(east: Lon, v: Point) -> bool
+    ensures { λ m. ⌜ m ≡ leb (east .0) (v .lon .0) ⌝ }
+{
+    let at = v.lon;
+    east.0 <= at.0
+}
+
 // Whether a corner at or beyond an east side is at or below the latitude of one of two points alone.
 fn between(p: Point, q: Point, east: Lon, v: Point) -> bool
     ensures { λ m. ⌜ m ≡ Edge·between east p q v ⌝ }
 {
-    let at = v.lon;
-    let height = v.lat;
-    let p_lat = p.lat;
-    let q_lat = q.lat;
-    east.0 <= at.0 && (height.0 <= p_lat.0) != (height.0 <= q_lat.0)
+    past_east(east, v) && parted(p, q, v)
 }
 
 // Whether an edge turns the count from odd to even, or back, between two points west of an east side. Most
-// edges lie wholly above or below both points, and cross nothing: of these the ends alone are asked.
+// edges have both ends on one side of each latitude, and cross nothing: the ends alone turn the count, where
+// they are parted by the latitudes, and one of them alone is beyond the east side.
 pub fn turns(p: Point, q: Point, east: Lon, a: Point, b: Point) -> bool
     ensures { λ m. ⌜ m ≡ Edge·turns east p q (edge a b) ⌝ }
 {
-    let ends = between(p, q, east, a) != between(p, q, east, b);
     if straddles(p, a, b) || straddles(q, a, b) {
+        let ends = between(p, q, east, a) != between(p, q, east, b);
         return (crosses_east(p, a, b) != crosses_east(q, a, b)) != ends;
     }
-    ends
+    parted(p, q, a) && past_east(east, a) != past_east(east, b)
 }

@@ -1,11 +1,11 @@
 -- Numbers compared, and products of differences: what `omega` is handed where it would have to choose or to multiply. Assumes nothing.
-use Prim.Native.Nat.{ℕ, suc, _+_, _*_, _-_, _≤_, _<_, max}
+use Prim.Native.Nat.{ℕ, suc, _+_, _*_, _-_, _≤_, _<_, min, max}
 use native.Mathlib.Omega.{arith}
 use mathlib.Core.Path.{_≡_, refl, subst}
 use mathlib.Core.Logic.{_⊎_, inl, inr}
-use mathlib.Core.Bool.{Bool, true, false, _||_}
+use mathlib.Core.Bool.{Bool, true, false, _&&_, _||_}
 use lib.Dec.{leb, ltb}
-use borrow.Author.Tests.{leb-true, leb-false, ltb-true, ltb-false, lt-ltb, le-ltb}
+use borrow.Author.Tests.{leb-true, leb-false, le-leb, lt-leb, ltb-true, ltb-false, lt-ltb, le-ltb}
 
 -- One of two numbers is at most the other
 pub either-way : (a b : ℕ) → (a ≤ b) ⊎ (b < a)
@@ -46,6 +46,24 @@ max-above end a b = at (ltb end a) (ltb end b) refl refl
     at true t h k = lt-ltb end (max a b) (omega (arith, ltb-true end a h))
     at false true h k = lt-ltb end (max a b) (omega (arith, ltb-true end b k))
     at false false h k = le-ltb end (max a b) (omega (arith, ltb-false end a h, ltb-false end b k))
+
+-- It is at most an end where both are
+pub max-most : (a b end : ℕ) → leb (max a b) end ≡ (leb a end && leb b end)
+max-most a b end = at (leb a end) (leb b end) refl refl
+  where
+    at : (s t : Bool) → leb a end ≡ s → leb b end ≡ t → leb (max a b) end ≡ (s && t)
+    at true true h k = le-leb (max a b) end (omega (arith, leb-true a end h, leb-true b end k))
+    at true false h k = lt-leb (max a b) end (omega (arith, leb-false b end k))
+    at false t h k = lt-leb (max a b) end (omega (arith, leb-false a end h))
+
+-- and the lesser is at least an end where both are
+pub min-least : (a b end : ℕ) → leb end (min a b) ≡ (leb end a && leb end b)
+min-least a b end = at (leb end a) (leb end b) refl refl
+  where
+    at : (s t : Bool) → leb end a ≡ s → leb end b ≡ t → leb end (min a b) ≡ (s && t)
+    at true true h k = le-leb end (min a b) (omega (arith, leb-true end a h, leb-true end b k))
+    at true false h k = lt-leb end (min a b) (omega (arith, leb-false end b k))
+    at false t h k = lt-leb end (min a b) (omega (arith, leb-false end a h))
 
 -- A difference and what it was taken from
 rest-of : {a b : ℕ} → a ≤ b → a + (b - a) ≡ b

@@ -1,21 +1,20 @@
 -- `edge::between` meets its contract: the latitudes decide where the corner is at or beyond the east side. Assumes nothing.
-use native.Mathlib.Omega.{arith}
-use borrow.Author.Tests.{le-leb, lt-leb}
-use Rattle.facts.specs.Tests.{unlike}
-use Rattle.edge.specs.Edge.{low}
+use mathlib.Core.Path.{sym, _∙_}
+use borrow.Author.Needs.{needs}
 use Rattle.edge.proofs.between.Statement.{statement}
 use Rattle.edge.proofs.between.Tie as tie
 
+past-east-requires : tie.Need-past-east-requires
+past-east-requires c κs = search needs
+
+parted-requires : tie.Need-parted-requires
+parted-requires c κs = search needs
+
 returns : tie.Need-returns
-returns c =
-    let beyond = c .before .before .before .before in
-    let a = beyond .before .before .before .before .before .before .before .args in
-    rw (le-leb (a .east .0) (a .v .lon .0) (omega (arith, beyond .if1 .taken))) (unlike (low (a .v) (a .p)) (low (a .v) (a .q)))
+returns c = rw (c .parted .ensures, sym (c .before .before .past-east .ensures) ∙ c .before .if1 .taken)
 
 returns-2 : tie.Need-returns-2
-returns-2 c =
-    let a = c .before .before .before .before .before .before .before .args in
-    rw (lt-leb (a .east .0) (a .v .lon .0) (omega (arith, c .if1 .left)))
+returns-2 c = rw (c .if1 .left, sym (c .before .past-east .ensures) ∙ c .if1 .left)
 
 pub between-spec : {M : Type 1} → statement M
-between-spec = tie.close (tie.spec returns returns-2)
+between-spec = tie.close (tie.spec past-east-requires parted-requires returns returns-2)

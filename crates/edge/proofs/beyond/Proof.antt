@@ -5,35 +5,35 @@ use borrow.Author.Needs.{needs}
 use Rattle.edge.proofs.beyond.Statement.{statement}
 use Rattle.edge.proofs.beyond.Tie as tie
 
-both-most-requires : tie.Need-both-most-requires
-both-most-requires c κs = search needs
+most-requires : tie.Need-most-requires
+most-requires c κs = search needs
 
 returns : tie.Need-returns
-returns c = rw (sym (c .before .both-most .ensures) ∙ c .if1 .taken)
+returns c = rw (sym (c .before .most .ensures) ∙ c .if1 .taken)
 
-both-most-requires-2 : tie.Need-both-most-requires-2
-both-most-requires-2 c κs = search needs
+least-requires : tie.Need-least-requires
+least-requires c κs = search needs
 
 returns-2 : tie.Need-returns-2
 returns-2 c =
     let c1 = c .before .before in
-    rw (sym (c1 .before .both-most .ensures) ∙ c1 .if1 .left, sym (c .before .both-most2 .ensures) ∙ c .if2 .taken)
+    rw (sym (c1 .before .most .ensures) ∙ c1 .if1 .left, sym (c .before .least .ensures) ∙ c .if2 .taken)
 
-both-most-requires-3 : tie.Need-both-most-requires-3
-both-most-requires-3 c κs = search needs
+most-requires-2 : tie.Need-most-requires-2
+most-requires-2 c κs = search needs
 
 returns-3 : tie.Need-returns-3
 returns-3 c =
     let c2 = c .before .before in
     let c1 = c2 .before .before in
     rw (
-      sym (c1 .before .both-most .ensures) ∙ c1 .if1 .left,
-      sym (c2 .before .both-most2 .ensures) ∙ c2 .if2 .left,
-      sym (c .before .both-most3 .ensures) ∙ c .if3 .taken,
+      sym (c1 .before .most .ensures) ∙ c1 .if1 .left,
+      sym (c2 .before .least .ensures) ∙ c2 .if2 .left,
+      sym (c .before .most2 .ensures) ∙ c .if3 .taken,
     )
 
-both-most-requires-4 : tie.Need-both-most-requires-4
-both-most-requires-4 c κs = search needs
+least-requires-2 : tie.Need-least-requires-2
+least-requires-2 c κs = search needs
 
 returns-4 : tie.Need-returns-4
 returns-4 c =
@@ -41,21 +41,21 @@ returns-4 c =
     let c2 = c3 .before .before in
     let c1 = c2 .before .before in
     rw (
-      c .both-most4 .ensures,
-      sym (c1 .before .both-most .ensures) ∙ c1 .if1 .left,
-      sym (c2 .before .both-most2 .ensures) ∙ c2 .if2 .left,
-      sym (c3 .before .both-most3 .ensures) ∙ c3 .if3 .left,
+      c .least2 .ensures,
+      sym (c1 .before .most .ensures) ∙ c1 .if1 .left,
+      sym (c2 .before .least .ensures) ∙ c2 .if2 .left,
+      sym (c3 .before .most2 .ensures) ∙ c3 .if3 .left,
     )
 
 pub beyond-spec : {M : Type 1} → statement M
 beyond-spec =
     tie.close
     (tie.spec
-    both-most-requires
+    most-requires
     returns
-    both-most-requires-2
+    least-requires
     returns-2
-    both-most-requires-3
+    most-requires-2
     returns-3
-    both-most-requires-4
+    least-requires-2
     returns-4)

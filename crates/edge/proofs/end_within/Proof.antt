@@ -3,7 +3,7 @@ use mathlib.Core.Path.{_≡_, sym, _∙_}
 use mathlib.Core.Bool.{_||_}
 use mathlib.Core.Logic.{⊎-elim}
 use Rattle.facts.specs.Tests.{either-left}
-use Rattle.edge.specs.MissesLaws.{strictlyWithin}
+use Rattle.edge.specs.Edge.{strictlyWithin}
 use borrow.Author.Needs.{needs}
 use Rattle.edge.proofs.end_within.Statement.{statement}
 use Rattle.edge.proofs.end_within.Tie as tie
