@@ -6,7 +6,8 @@ use ground::Point;
 use ground::Rectangle;
 
 // The fields of a code: its reference, scale, the four spans in the order E, W, S, N, and the
-// unit number.
+// unit number. Laid out as C does, since `ffi` hands them to other languages.
+#[repr(C)]
 pub struct Fields {
     pub reference: Point,
     pub scale: u32,

@@ -25,33 +25,23 @@ fn both_most(a: u32, b: u32, c: u32, d: u32) -> bool
 pub fn beyond(a: Point, b: Point, r: Rectangle) -> bool
     ensures { λ m. ⌜ m ≡ Edge·beyond (edge a b) r ⌝ }
 {
-    let a_lat = a.lat;
-    let a_lon = a.lon;
-    let b_lat = b.lat;
-    let b_lon = b.lon;
-    let west = r.west;
-    let east = r.east;
-    let south = r.south;
-    let north = r.north;
-    if both_most(a_lon.0, west.0, b_lon.0, west.0) {
+    if both_most(a.lon.0, r.west.0, b.lon.0, r.west.0) {
         return true;
     }
-    if both_most(east.0, a_lon.0, east.0, b_lon.0) {
+    if both_most(r.east.0, a.lon.0, r.east.0, b.lon.0) {
         return true;
     }
-    if both_most(a_lat.0, south.0, b_lat.0, south.0) {
+    if both_most(a.lat.0, r.south.0, b.lat.0, r.south.0) {
         return true;
     }
-    both_most(north.0, a_lat.0, north.0, b_lat.0)
+    both_most(r.north.0, a.lat.0, r.north.0, b.lat.0)
 }
 
 // The latitude of the corner that is furthest right of the line from a to b.
 fn extreme_lat(a: Point, b: Point, r: Rectangle) -> Lat
     ensures { λ m. ⌜ m ≡ extremeLat a b r ⌝ }
 {
-    let from = a.lon;
-    let to = b.lon;
-    if from.0 <= to.0 {
+    if a.lon.0 <= b.lon.0 {
         return r.south;
     }
     r.north
@@ -61,9 +51,7 @@ fn extreme_lat(a: Point, b: Point, r: Rectangle) -> Lat
 fn extreme_lon(a: Point, b: Point, r: Rectangle) -> Lon
     ensures { λ m. ⌜ m ≡ extremeLon a b r ⌝ }
 {
-    let from = a.lat;
-    let to = b.lat;
-    if from.0 <= to.0 {
+    if a.lat.0 <= b.lat.0 {
         return r.east;
     }
     r.west
@@ -109,11 +97,7 @@ fn each_left(a: Point, b: Point, r: Rectangle) -> bool
 pub fn aside(a: Point, b: Point, r: Rectangle) -> bool
     ensures { λ m. ⌜ m ≡ (allLeft a b r || allLeft b a r) ⌝ }
 {
-    let west = r.west;
-    let east = r.east;
-    let south = r.south;
-    let north = r.north;
-    if both_most(west.0, east.0, south.0, north.0) {
+    if both_most(r.west.0, r.east.0, r.south.0, r.north.0) {
         return ordered_left(a, b, r) || ordered_left(b, a, r);
     }
     each_left(a, b, r) || each_left(b, a, r)
