@@ -1,4 +1,4 @@
-// Coding's checks before a cell is looked for, table by table.
+// Coding's checks before a cell is looked for, table by table, and what they leave to a road.
 ghost use Prim.Native.Nat.{_/_, _≤_};
 ghost use mathlib.Core.Path.{_≡_};
 ghost use lib.ListN.{length};

@@ -6,7 +6,7 @@ use ground::Point;
 use ground::Rectangle;
 
 // The fields of a code: its reference, scale, the four spans in the order E, W, S, N, and the
-// unit number. Laid out as C does, since `ffi` hands them to other languages.
+// unit number. Laid out as in C, so that callers in other languages can have them.
 #[repr(C)]
 pub struct Fields {
     pub reference: Point,

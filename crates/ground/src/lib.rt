@@ -42,8 +42,8 @@ pub const FINEST: u32 = 27;
 // The smallest nominal size, that of the finest level.
 pub const SMALLEST: u32 = 32;
 
-// A latitude in u, north of the equator. It, a longitude, a point and a rectangle are laid out as C
-// does, since `ffi` hands them to other languages.
+// A latitude in u, north of the equator. It, a longitude, a point and a rectangle are laid out as in C,
+// so that callers in other languages can have them.
 #[repr(C)]
 pub struct Lat(pub u32);
 

@@ -132,29 +132,29 @@ module _ (room : ℕ) (numbers : List ℕ) (kind : Kind) (number : ℕ) where
     admitting-accepts e own = rw (own, sym first, eq-eqb (said .number) 0 e)
 
   -- and back: what they say, where one of them refuses, or the unit's own extremes, where none does
-  abbrev Left : Said ⊎ Rectangle → Type 0
-  Left (inl said) = (said ≡ said-first) × (said-first .number ≡ 0 → ⊥)
-  Left (inr r) = (r ≡ extremesOf (cornersOf numbers)) × (said-first .number ≡ 0)
+  abbrev Admitted : Said ⊎ Rectangle → Type 0
+  Admitted (inl said) = (said ≡ said-first) × (said-first .number ≡ 0 → ⊥)
+  Admitted (inr r) = (r ≡ extremesOf (cornersOf numbers)) × (said-first .number ≡ 0)
 
-  left : (l : Said ⊎ Rectangle) → l ≡ admitting room numbers kind number → Left l
+  admitted : (l : Said ⊎ Rectangle) → l ≡ admitting room numbers kind number → Admitted l
   unfolding admitting
-  left l told = subst Left (sym told) (at (eqb (said-first .number) 0) refl)
+  admitted l told = subst Admitted (sym told) (at (eqb (said-first .number) 0) refl)
     where
-      at : (b : Bool) → eqb (said-first .number) 0 ≡ b → Left (cond b (inr (extremesOf (cornersOf numbers))) (inl said-first))
+      at : (b : Bool) → eqb (said-first .number) 0 ≡ b → Admitted (cond b (inr (extremesOf (cornersOf numbers))) (inl said-first))
       at true k = (refl, eqb-true (said-first .number) 0 k)
       at false k = (refl, eqb-false (said-first .number) 0 k)
 
   module _ {a : Admission} (told : tells a ≡ admitting room numbers kind number) where
-    left-refused : {answer : Coded} → a ≡ admission.Refused answer → Left (inl (says answer))
-    left-refused {answer} e = left (inl (says answer)) (ap tells (sym e) ∙ told)
+    admitted-refused : {answer : Coded} → a ≡ admission.Refused answer → Admitted (inl (says answer))
+    admitted-refused {answer} e = admitted (inl (says answer)) (ap tells (sym e) ∙ told)
 
-    left-over : {r : Rectangle} → a ≡ admission.Over r → Left (inr r)
-    left-over {r} e = left (inr r) (ap tells (sym e) ∙ told)
+    admitted-over : {r : Rectangle} → a ≡ admission.Over r → Admitted (inr r)
+    admitted-over {r} e = admitted (inr r) (ap tells (sym e) ∙ told)
 
     -- A road that they accept has what its search takes for granted
     pub road-searches : {r : Rectangle} → a ≡ admission.Over r → Searched numbers r
     road-searches e =
-        let h = left-over e in
+        let h = admitted-over e in
         let entry = entered room numbers kind number (h .1) in
         let over = over-range (cornersOf numbers) (entry .ground .range) in
         record { most = entry .shape .most; over = subst (λ (x : Rectangle). Over x (boundaryOf numbers)) (sym (h .0)) over }
@@ -191,13 +191,13 @@ module _ (room numbers : List ℕ) (kind : Kind) (number : ℕ) where
     -- So a road that they refuse says what they say and leaves the room
     pub road-refused : {answer : Coded} → a ≡ admission.Refused answer → leaves answer room ≡ coding room numbers kind number
     road-refused e =
-        let h = left-refused (length room) numbers kind number told e in
+        let h = admitted-refused (length room) numbers kind number told e in
         ap (λ (s : Said). record { said = s; room = room }) (h .0) ∙ sym (framed-refused (h .1))
 
     -- and one that they accept codes by ending around the chosen cell
     pub road-ends : {r : Rectangle} → a ≡ admission.Over r → {o : Outcome} {choice : Choice} → choice ≡ choose r (boundaryOf numbers)
         → o ≡ finishing room r number choice → o ≡ coding room numbers kind number
     road-ends e chosen ended =
-        let h = left-over (length room) numbers kind number told e in
+        let h = admitted-over (length room) numbers kind number told e in
         let found = chosen ∙ ap (λ (x : Rectangle). choose x (boundaryOf numbers)) (h .0) in
         ended ∙ ap₂ (λ (x : Rectangle) (y : Choice). finishing room x number y) (h .0) found ∙ sym (framed (h .1))
