@@ -1,12 +1,13 @@
-// Coding's checks before a cell is looked for, table by table.
+// Coding's checks before a cell is looked for, table by table, and what they leave to a road.
 ghost use Prim.Native.Nat.{_/_, _≤_};
 ghost use mathlib.Core.Path.{_≡_};
 ghost use lib.ListN.{length};
 ghost use Rattle.replies.specs.Replies.{run};
 ghost use Rattle.corners.specs.Corners.{cornersOf};
 ghost use Rattle.unit.specs.Unit.{badNumber, roomCheck, shapeChecks, groundChecks, numberCheck};
-ghost use Rattle.unit.specs.Frame.{says, firstChecks};
+ghost use Rattle.unit.specs.Frame.{says, firstChecks, tells, admitting};
 use ground::DEGREE;
+use unit::Admission;
 use unit::Coded;
 use unit::Kind;
 use unit::coded_number;
@@ -71,9 +72,8 @@ fn number_check(kind: Kind, number: u32) -> Coded
     Coded::Accepted
 }
 
-// What checks 1 to 6 say of so many bytes of room: the first that refuses, or acceptance; a cell is
-// looked for only then.
-pub fn checks(room: usize, numbers: &[u32], kind: Kind, number: u32) -> Coded
+// What checks 1 to 6 say of so many bytes of room: the first that refuses, or acceptance.
+fn checks(room: usize, numbers: &[u32], kind: Kind, number: u32) -> Coded
     ensures { λ r. ⌜ says r ≡ run (firstChecks room (now (numbers .entry)) kind number) ⌝ }
 {
     let roomy = room_check(room);
@@ -89,4 +89,16 @@ pub fn checks(room: usize, numbers: &[u32], kind: Kind, number: u32) -> Coded
         return grounded;
     }
     number_check(kind, number)
+}
+
+// What checks 1 to 6 leave to a road: the refusal of the first that refuses, or the unit's own extremes;
+// a cell is looked for only then.
+pub fn admit(room: usize, numbers: &[u32], kind: Kind, number: u32) -> Admission
+    ensures { λ r. ⌜ tells r ≡ admitting room (now (numbers .entry)) kind number ⌝ }
+{
+    let said = checks(room, numbers, kind, number);
+    if coded_number(said) != 0 {
+        return Admission::Refused(said);
+    }
+    Admission::Over(unit::extremes(numbers))
 }

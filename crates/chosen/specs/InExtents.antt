@@ -15,7 +15,7 @@ use Rattle.ground.specs.Cells.{sidesOf, IsCell, cornerOf}
 use Rattle.ground.specs.CellsLaws.{cell-wide}
 use Rattle.edge.specs.Edge.{Edge}
 use Rattle.boundary.specs.Boundary.{pointInside, inside}
-use Rattle.boundary.specs.Closed.{Ends, west-apart, east-apart, south-apart, north-apart}
+use Rattle.boundary.specs.Closed.{Closed, Ends, west-apart, east-apart, south-apart, north-apart}
 use Rattle.boundary.specs.InsideLaws.{inside-point}
 use Rattle.chosen.specs.Chosen.{Over}
 
@@ -23,35 +23,25 @@ module _ {r : Rectangle} {es : List Edge} (o : Over r es) (c : Cell) (is : IsCel
   wide : Wide (sidesOf c)
   wide = cell-wide c (is .level)
 
-  -- A point of the cell is inside
-  never : (p : Point) → Lies (sidesOf c) p → pointInside p es ≡ false → ⊥
-  never p k e = true≢false (sym (inside-point es (sidesOf c) t (o .closed) k) ∙ e)
-
-  -- What follows for each point of the extents follows for the ends of each edge
-  ends : (P : Point → Type 0) → ((v : Point) → Holds r v → P v) → Each (Ends P) es
-  ends P so = each-so (λ e h. (so (e .start) (h .0), so (e .end) (h .1))) es (o .held)
+  -- A point of the cell is inside, so that the extents are not all on one side of it
+  never : (p : Point) → Lies (sidesOf c) p → (P : Point → Type 0) → ((v : Point) → Holds r v → P v)
+      → (Closed es → Each (Ends P) es → pointInside p es ≡ false) → ⊥
+  never p lies P all apart =
+      let ends : Each (Ends P) es = each-so (λ e h. (all (e .start) (h .0), all (e .end) (h .1))) es (o .held) in
+      true≢false (sym (inside-point es (sidesOf c) t (o .closed) lies) ∙ apart (o .closed) ends)
 
   -- A cell that is inside lies within the extents
   pub in-extents : Within (sidesOf c) r
   unfolding sidesOf
   in-extents =
+      let within-low : Lies (sidesOf c) low = omega (arith, wide .across, wide .up) in
+      let within-east : Lies (sidesOf c) east = omega (arith, wide .across, wide .up) in
+      let within-north : Lies (sidesOf c) north = omega (arith, wide .across, wide .up) in
       record {
-        west =
-            not-above λ h.
-            never low (omega (arith, wide .across, wide .up))
-            (west-apart low (o .closed) (ends (λ v. low .lon .0 < v .lon .0) (λ v k. omega (arith, k .west))));
-        east =
-            not-above λ h.
-            never east (omega (arith, wide .across, wide .up))
-            (east-apart east (o .closed) (ends (λ v. v .lon .0 ≤ east .lon .0) (λ v k. omega (arith, k .east, wide .across))));
-        south =
-            not-above λ h.
-            never low (omega (arith, wide .across, wide .up))
-            (south-apart low (o .closed) (ends (λ v. low .lat .0 < v .lat .0) (λ v k. omega (arith, k .south))));
-        north =
-            not-above λ h.
-            never north (omega (arith, wide .across, wide .up))
-            (north-apart north (o .closed) (ends (λ v. v .lat .0 ≤ north .lat .0) (λ v k. omega (arith, k .north, wide .up))));
+        west = not-above λ h. never low within-low (λ v. low .lon .0 < v .lon .0) (λ v k. omega (arith, k .west)) (west-apart low);
+        east = not-above λ h. never east within-east (λ v. v .lon .0 ≤ east .lon .0) (λ v k. omega (arith, k .east, wide .across)) (east-apart east);
+        south = not-above λ h. never low within-low (λ v. low .lat .0 < v .lat .0) (λ v k. omega (arith, k .south)) (south-apart low);
+        north = not-above λ h. never north within-north (λ v. v .lat .0 ≤ north .lat .0) (λ v k. omega (arith, k .north, wide .up)) (north-apart north);
       }
     where
       low : Point

@@ -6,7 +6,8 @@ use ground::Point;
 use ground::Rectangle;
 
 // The fields of a code: its reference, scale, the four spans in the order E, W, S, N, and the
-// unit number.
+// unit number. Laid out as in C, so that callers in other languages can have them.
+#[repr(C)]
 pub struct Fields {
     pub reference: Point,
     pub scale: u32,

@@ -96,7 +96,7 @@ module _ (room numbers : List ℕ) (kind : Kind) (number : ℕ) where
 
   -- A search takes for granted what it may, where checks 1 to 6 pass
   over : Checked room numbers kind number → Over (extremesOf (cornersOf numbers)) (boundaryOf numbers)
-  over e = over-range (cornersOf numbers) (entered room numbers kind number e .ground .range)
+  over e = over-range (cornersOf numbers) (entered (length room) numbers kind number e .ground .range)
 
   accepts : coding room numbers kind number .said ≡ accepted → CodeOfChosen numbers number (coding room numbers kind number .room)
   accepts e =

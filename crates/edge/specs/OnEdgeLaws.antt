@@ -40,30 +40,17 @@ pub record SameSign (l r m s : ℕ) : Type 0 where
   second : base < top
   equal : high * l + low * r + (top * s + base * m) ≡ low * l + high * r + (top * m + base * s)
 
+-- as two pairs of numbers tell
+by-pairs : {l r m s : ℕ} (low high base top : ℕ) → low < high → base < top
+    → high * l + low * r + (top * s + base * m) ≡ low * l + high * r + (top * m + base * s) → SameSign l r m s
+by-pairs low high base top h k e = record { low = low; high = high; base = base; top = top; first = h; second = k; equal = e }
+
 -- and the other way, and each for the other
 pub sign-other-way : {l r m s : ℕ} → SameSign l r m s → SameSign r l s m
-sign-other-way g =
-    record {
-      low = g .low;
-      high = g .high;
-      base = g .base;
-      top = g .top;
-      first = g .first;
-      second = g .second;
-      equal = omega (arith, g .equal);
-    }
+sign-other-way g = by-pairs (g .low) (g .high) (g .base) (g .top) (g .first) (g .second) (omega (arith, g .equal))
 
 pub sign-back : {l r m s : ℕ} → SameSign l r m s → SameSign m s l r
-sign-back g =
-    record {
-      low = g .base;
-      high = g .top;
-      base = g .low;
-      top = g .high;
-      first = g .second;
-      second = g .first;
-      equal = omega (arith, g .equal);
-    }
+sign-back g = by-pairs (g .base) (g .top) (g .low) (g .high) (g .second) (g .first) (omega (arith, g .equal))
 
 below : {a b : ℕ} → a < b → a ≤ b
 below h = omega arith
@@ -98,8 +85,8 @@ sign-along : (a p b l r m s : ℕ) → Between a p b → (a ≡ p → ⊥)
 sign-along a p b l r m s on apart e = at (either-way a p)
   where
     at : (a ≤ p) ⊎ (p < a) → SameSign l r m s
-    at (inl h) = record { low = a; high = p; base = a; top = b; first = omega arith; second = omega arith; equal = e }
-    at (inr h) = record { low = p; high = a; base = b; top = a; first = h; second = omega arith; equal = omega arith }
+    at (inl h) = by-pairs a p a b (omega arith) (omega arith) e
+    at (inr h) = by-pairs p a b a h (omega arith) (omega arith)
 
 -- Apart in a direction
 abbrev pub Apart : Point → Point → Type 0

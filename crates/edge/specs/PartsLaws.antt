@@ -84,38 +84,36 @@ module _ {a p b : Point} {r : Rectangle} (wide : Wide r) (on : OnEdge a p b) whe
       → Missed (edge a b) r
   right-at f = onRight (λ q o. let h = f q o in omega (arith, h .0 .product, h .1 .product, on .line))
 
+  -- It misses where one of two numbers is at most another, and where neither is
+  one-of-two : (x y u v : ℕ) → (x ≤ y → Missed (edge a b) r) → (u ≤ v → Missed (edge a b) r) → (y < x → v < u → Missed (edge a b) r)
+      → Missed (edge a b) r
+  one-of-two x y u v first second neither = at (either-way x y) (either-way u v)
+    where
+      at : (x ≤ y) ⊎ (y < x) → (u ≤ v) ⊎ (v < u) → Missed (edge a b) r
+      at (inl h) k = first h
+      at (inr h) (inl k) = second k
+      at (inr h) (inr k) = neither h k
+
   -- One part beyond the west side and the other beyond the south: so is the whole, or the rectangle lies on one side
   west-south : a .lon .0 ≤ r .west .0 → p .lon .0 ≤ r .west .0 → p .lat .0 ≤ r .south .0 → b .lat .0 ≤ r .south .0 → Missed (edge a b) r
-  west-south ha hp kp kb = at (either-way (b .lon .0) (r .west .0)) (either-way (a .lat .0) (r .south .0))
-    where
-      at : (b .lon .0 ≤ r .west .0) ⊎ (r .west .0 < b .lon .0) → (a .lat .0 ≤ r .south .0) ⊎ (r .south .0 < a .lat .0) → Missed (edge a b) r
-      at (inl h) k = Missed.west ha h
-      at (inr h) (inl k) = Missed.south k kb
-      at (inr h) (inr k) = left-at (λ q o. (both-up (omega arith) (omega arith), both-up (omega arith) (omega arith)))
+  west-south ha hp kp kb =
+      one-of-two (b .lon .0) (r .west .0) (a .lat .0) (r .south .0) (Missed.west ha) (λ k. Missed.south k kb)
+      (λ h k. left-at (λ q o. (both-up (omega arith) (omega arith), both-up (omega arith) (omega arith))))
 
   west-north : a .lon .0 ≤ r .west .0 → p .lon .0 ≤ r .west .0 → r .north .0 ≤ p .lat .0 → r .north .0 ≤ b .lat .0 → Missed (edge a b) r
-  west-north ha hp kp kb = at (either-way (b .lon .0) (r .west .0)) (either-way (r .north .0) (a .lat .0))
-    where
-      at : (b .lon .0 ≤ r .west .0) ⊎ (r .west .0 < b .lon .0) → (r .north .0 ≤ a .lat .0) ⊎ (a .lat .0 < r .north .0) → Missed (edge a b) r
-      at (inl h) k = Missed.west ha h
-      at (inr h) (inl k) = Missed.north k kb
-      at (inr h) (inr k) = right-at (λ q o. (both-down (omega arith) (omega arith), both-up (omega arith) (omega arith)))
+  west-north ha hp kp kb =
+      one-of-two (b .lon .0) (r .west .0) (r .north .0) (a .lat .0) (Missed.west ha) (λ k. Missed.north k kb)
+      (λ h k. right-at (λ q o. (both-down (omega arith) (omega arith), both-up (omega arith) (omega arith))))
 
   east-south : r .east .0 ≤ a .lon .0 → r .east .0 ≤ p .lon .0 → p .lat .0 ≤ r .south .0 → b .lat .0 ≤ r .south .0 → Missed (edge a b) r
-  east-south ha hp kp kb = at (either-way (r .east .0) (b .lon .0)) (either-way (a .lat .0) (r .south .0))
-    where
-      at : (r .east .0 ≤ b .lon .0) ⊎ (b .lon .0 < r .east .0) → (a .lat .0 ≤ r .south .0) ⊎ (r .south .0 < a .lat .0) → Missed (edge a b) r
-      at (inl h) k = Missed.east ha h
-      at (inr h) (inl k) = Missed.south k kb
-      at (inr h) (inr k) = right-at (λ q o. (both-up (omega arith) (omega arith), both-down (omega arith) (omega arith)))
+  east-south ha hp kp kb =
+      one-of-two (r .east .0) (b .lon .0) (a .lat .0) (r .south .0) (Missed.east ha) (λ k. Missed.south k kb)
+      (λ h k. right-at (λ q o. (both-up (omega arith) (omega arith), both-down (omega arith) (omega arith))))
 
   east-north : r .east .0 ≤ a .lon .0 → r .east .0 ≤ p .lon .0 → r .north .0 ≤ p .lat .0 → r .north .0 ≤ b .lat .0 → Missed (edge a b) r
-  east-north ha hp kp kb = at (either-way (r .east .0) (b .lon .0)) (either-way (r .north .0) (a .lat .0))
-    where
-      at : (r .east .0 ≤ b .lon .0) ⊎ (b .lon .0 < r .east .0) → (r .north .0 ≤ a .lat .0) ⊎ (a .lat .0 < r .north .0) → Missed (edge a b) r
-      at (inl h) k = Missed.east ha h
-      at (inr h) (inl k) = Missed.north k kb
-      at (inr h) (inr k) = left-at (λ q o. (both-down (omega arith) (omega arith), both-down (omega arith) (omega arith)))
+  east-north ha hp kp kb =
+      one-of-two (r .east .0) (b .lon .0) (r .north .0) (a .lat .0) (Missed.east ha) (λ k. Missed.north k kb)
+      (λ h k. left-at (λ q o. (both-down (omega arith) (omega arith), both-down (omega arith) (omega arith))))
 
   -- No number is beyond both of two opposite sides
   not-both : {low high n : ℕ} → low < high → n ≤ low → high ≤ n → Missed (edge a b) r

@@ -39,33 +39,23 @@ fn least(a: u32, b: u32, third: u32) -> bool
 pub fn beyond(a: Point, b: Point, r: Rectangle) -> bool
     ensures { λ m. ⌜ m ≡ Edge·beyond (edge a b) r ⌝ }
 {
-    let a_lat = a.lat;
-    let a_lon = a.lon;
-    let b_lat = b.lat;
-    let b_lon = b.lon;
-    let west = r.west;
-    let east = r.east;
-    let south = r.south;
-    let north = r.north;
-    if most(a_lon.0, b_lon.0, west.0) {
+    if most(a.lon.0, b.lon.0, r.west.0) {
         return true;
     }
-    if least(a_lon.0, b_lon.0, east.0) {
+    if least(a.lon.0, b.lon.0, r.east.0) {
         return true;
     }
-    if most(a_lat.0, b_lat.0, south.0) {
+    if most(a.lat.0, b.lat.0, r.south.0) {
         return true;
     }
-    least(a_lat.0, b_lat.0, north.0)
+    least(a.lat.0, b.lat.0, r.north.0)
 }
 
 // The latitude of the corner that is furthest right of the line from a to b.
 fn extreme_lat(a: Point, b: Point, r: Rectangle) -> Lat
     ensures { λ m. ⌜ m ≡ extremeLat a b r ⌝ }
 {
-    let from = a.lon;
-    let to = b.lon;
-    if from.0 <= to.0 {
+    if a.lon.0 <= b.lon.0 {
         return r.south;
     }
     r.north
@@ -75,9 +65,7 @@ fn extreme_lat(a: Point, b: Point, r: Rectangle) -> Lat
 fn extreme_lon(a: Point, b: Point, r: Rectangle) -> Lon
     ensures { λ m. ⌜ m ≡ extremeLon a b r ⌝ }
 {
-    let from = a.lat;
-    let to = b.lat;
-    if from.0 <= to.0 {
+    if a.lat.0 <= b.lat.0 {
         return r.east;
     }
     r.west
@@ -123,11 +111,7 @@ fn each_left(a: Point, b: Point, r: Rectangle) -> bool
 pub fn aside(a: Point, b: Point, r: Rectangle) -> bool
     ensures { λ m. ⌜ m ≡ (allLeft a b r || allLeft b a r) ⌝ }
 {
-    let west = r.west;
-    let east = r.east;
-    let south = r.south;
-    let north = r.north;
-    if both_most(west.0, east.0, south.0, north.0) {
+    if both_most(r.west.0, r.east.0, r.south.0, r.north.0) {
         return ordered_left(a, b, r) || ordered_left(b, a, r);
     }
     each_left(a, b, r) || each_left(b, a, r)
@@ -144,13 +128,8 @@ fn strictly_between(low: u32, n: u32, high: u32) -> bool
 fn strictly_within(p: Point, r: Rectangle) -> bool
     ensures { λ m. ⌜ m ≡ strictlyWithin r p ⌝ }
 {
-    let lat = p.lat;
-    let lon = p.lon;
-    let west = r.west;
-    let east = r.east;
-    let south = r.south;
-    let north = r.north;
-    strictly_between(west.0, lon.0, east.0) && strictly_between(south.0, lat.0, north.0)
+    strictly_between(r.west.0, p.lon.0, r.east.0)
+        && strictly_between(r.south.0, p.lat.0, r.north.0)
 }
 
 // Whether the ends of an edge are two points.

@@ -1,6 +1,6 @@
 // The fields of a unit: the reference of its cell, its scale and its spans.
 ghost use mathlib.Core.Path.{_≡_};
-ghost use Prim.Native.Nat.{_-_, _≤_};
+ghost use Prim.Native.Nat.{_≤_};
 ghost use Rattle.ground.specs.Levels.{distance, smallestSize};
 ghost use Rattle.ground.specs.Cells.{sidesOf, locationCell, cornerOf};
 ghost use Rattle.unit.specs.Unit.{spanCells, fieldsOf};
@@ -13,13 +13,6 @@ use ground::Lon;
 use ground::Point;
 use ground::Rectangle;
 use ground::SMALLEST;
-
-// A number less another, and 0 where that is greater.
-fn less(a: u32, b: u32) -> u32
-    ensures { λ r. ⌜ r ≡ a - b ⌝ }
-{
-    if a < b { 0 } else { a - b }
-}
 
 // The distance of two angles of one direction, divided by a size and rounded up, plus 1.
 fn span_cells(s: u32, from: u32, to: u32) -> u32
@@ -44,11 +37,9 @@ fn reference(c: Cell, sides: Rectangle) -> Point
         };
     }
     let p = ground::centre(sides);
-    let lat = p.lat;
-    let lon = p.lon;
     Point {
-        lat: Lat(less(lat.0, SMALLEST)),
-        lon: Lon(less(lon.0, SMALLEST)),
+        lat: Lat(ground::less(p.lat.0, SMALLEST)),
+        lon: Lon(ground::less(p.lon.0, SMALLEST)),
     }
 }
 
@@ -58,21 +49,15 @@ pub(crate) fn fields(r: Rectangle, number: u32, c: Cell, sides: Rectangle) -> Fi
     ensures { λ f. ⌜ f ≡ fieldsOf r number c ⌝ }
 {
     let p = reference(c, sides);
-    let lat = p.lat;
-    let lon = p.lon;
-    let west = r.west;
-    let east = r.east;
-    let south = r.south;
-    let north = r.north;
     let level = scale_of(unit::span(r));
     let s = ground::size(level);
     Fields {
         reference: p,
         scale: level,
-        east: span_cells(s, lon.0, east.0),
-        west: span_cells(s, lon.0, west.0),
-        south: span_cells(s, lat.0, south.0),
-        north: span_cells(s, lat.0, north.0),
+        east: span_cells(s, p.lon.0, r.east.0),
+        west: span_cells(s, p.lon.0, r.west.0),
+        south: span_cells(s, p.lat.0, r.south.0),
+        north: span_cells(s, p.lat.0, r.north.0),
         number,
     }
 }

@@ -6,10 +6,12 @@ ghost use mathlib.Core.Path.{_≡_};
 ghost use Rattle.code.specs.Code.{reading, writing, tells as Code·tells, tellsNothing};
 ghost use Rattle.unit.specs.Unit.{kindOf, coding};
 ghost use Rattle.unit.specs.Frame.{says};
-ghost use Rattle.ffi.specs.Replies.{said, sides, fieldsOf, leaves, tells};
+ghost use Rattle.ffi.specs.Replies.{said, leaves, tells};
+use code::Fields;
 use ground::Lat;
 use ground::Lon;
 use ground::Point;
+use ground::Rectangle;
 use unit::Coded;
 
 // What coding and writing answer: 0 and 0, or the number and the place of a refusal.
@@ -23,29 +25,6 @@ pub struct Reply {
 #[repr(C)]
 pub struct Kind {
     pub letter: u8,
-}
-
-// The fields of a code: its reference, scale, the four spans in the order E, W, S, N, and the unit
-// number.
-#[repr(C)]
-pub struct Fields {
-    pub lat: u32,
-    pub lon: u32,
-    pub scale: u32,
-    pub east: u32,
-    pub west: u32,
-    pub south: u32,
-    pub north: u32,
-    pub number: u32,
-}
-
-// A rectangle of ground by its four sides.
-#[repr(C)]
-pub struct Rectangle {
-    pub west: u32,
-    pub east: u32,
-    pub south: u32,
-    pub north: u32,
 }
 
 // What reading answers: the reply, the fields and the rectangle; all of these are 0 after a refusal.
@@ -93,41 +72,6 @@ pub extern "C" fn linenspruce_code_plain(
     coded(plain::code(room, numbers, unit::kind_of(kind.letter), number))
 }
 
-// A rectangle's sides in numbers.
-fn sides_in_numbers(r: ground::Rectangle) -> Rectangle
-    ensures { λ s. ⌜ sides s ≡ r ⌝ }
-{
-    let west = r.west;
-    let east = r.east;
-    let south = r.south;
-    let north = r.north;
-    Rectangle {
-        west: west.0,
-        east: east.0,
-        south: south.0,
-        north: north.0,
-    }
-}
-
-// A code's fields in numbers.
-fn fields_in_numbers(f: code::Fields) -> Fields
-    ensures { λ r. ⌜ fieldsOf r ≡ f ⌝ }
-{
-    let p = f.reference;
-    let lat = p.lat;
-    let lon = p.lon;
-    Fields {
-        lat: lat.0,
-        lon: lon.0,
-        scale: f.scale,
-        east: f.east,
-        west: f.west,
-        south: f.south,
-        north: f.north,
-        number: f.number,
-    }
-}
-
 // A refusal of reading: its reply, and 0 everywhere else.
 fn refused(reply: Reply) -> Reading
     ensures { λ r. ⌜ tells r ≡ tellsNothing (said reply) ⌝ }
@@ -135,8 +79,10 @@ fn refused(reply: Reply) -> Reading
     Reading {
         reply,
         fields: Fields {
-            lat: 0,
-            lon: 0,
+            reference: Point {
+                lat: Lat(0),
+                lon: Lon(0),
+            },
             scale: 0,
             east: 0,
             west: 0,
@@ -145,10 +91,10 @@ fn refused(reply: Reply) -> Reading
             number: 0,
         },
         rectangle: Rectangle {
-            west: 0,
-            east: 0,
-            south: 0,
-            north: 0,
+            west: Lon(0),
+            east: Lon(0),
+            south: Lat(0),
+            north: Lat(0),
         },
     }
 }
@@ -162,10 +108,10 @@ fn told(answer: code::Reading) -> Reading
         place: code::reading_place(answer),
     };
     match answer {
-        code::Reading::Accepted(f, r) => Reading {
+        code::Reading::Accepted(fields, rectangle) => Reading {
             reply,
-            fields: fields_in_numbers(f),
-            rectangle: sides_in_numbers(r),
+            fields,
+            rectangle,
         },
         _ => refused(reply),
     }
@@ -179,30 +125,12 @@ pub extern "C" fn linenspruce_read(text: &[u8]) -> Reading
     told(reader::read(text))
 }
 
-// The fields of a code from numbers.
-fn fields_from(f: Fields) -> code::Fields
-    ensures { λ r. ⌜ r ≡ fieldsOf f ⌝ }
-{
-    code::Fields {
-        reference: Point {
-            lat: Lat(f.lat),
-            lon: Lon(f.lon),
-        },
-        scale: f.scale,
-        east: f.east,
-        west: f.west,
-        south: f.south,
-        north: f.north,
-        number: f.number,
-    }
-}
-
 // Writes the code of fields into bytes 0 to 19 of a room, or refuses and writes nothing.
 #[no_mangle]
 pub extern "C" fn linenspruce_write(room: &mut [u8], fields: Fields) -> Reply
-    ensures { λ r. ⌜ leaves r (now (room .exit)) ≡ writing (now (room .entry)) (fieldsOf fields) ⌝ }
+    ensures { λ r. ⌜ leaves r (now (room .exit)) ≡ writing (now (room .entry)) fields ⌝ }
 {
-    let answer = writer::write(room, fields_from(fields));
+    let answer = writer::write(room, fields);
     Reply {
         number: code::written_number(answer),
         place: 0,

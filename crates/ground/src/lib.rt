@@ -20,6 +20,7 @@ pub use rectangles::south_west;
 pub use rectangles::west_of;
 pub use rectangles::widened;
 ghost use mathlib.Core.Path.{_≡_};
+ghost use Prim.Native.Nat.{_-_};
 ghost use Rattle.ground.specs.Levels.{sizeOf, distance};
 
 // A degree in u.
@@ -41,19 +42,24 @@ pub const FINEST: u32 = 27;
 // The smallest nominal size, that of the finest level.
 pub const SMALLEST: u32 = 32;
 
-// A latitude in u, north of the equator.
+// A latitude in u, north of the equator. It, a longitude, a point and a rectangle are laid out as in C,
+// so that callers in other languages can have them.
+#[repr(C)]
 pub struct Lat(pub u32);
 
 // A longitude in u, east of the prime meridian.
+#[repr(C)]
 pub struct Lon(pub u32);
 
 // A point of the ground: a corner, a centre, a reference.
+#[repr(C)]
 pub struct Point {
     pub lat: Lat,
     pub lon: Lon,
 }
 
 // A rectangle of ground by its four sides.
+#[repr(C)]
 pub struct Rectangle {
     pub west: Lon,
     pub east: Lon,
@@ -73,6 +79,13 @@ pub fn apart(a: u32, b: u32) -> u32
     ensures { λ r. ⌜ r ≡ distance a b ⌝ }
 {
     if a < b { b - a } else { a - b }
+}
+
+// A number less another, and 0 where that is greater.
+pub fn less(a: u32, b: u32) -> u32
+    ensures { λ r. ⌜ r ≡ a - b ⌝ }
+{
+    if a < b { 0 } else { a - b }
 }
 
 // The nominal sizes of levels 9 to 27, in u (annex D of TD/T 1082-2023's draft).

@@ -57,11 +57,12 @@ unfolding paired latters
 latters-most zero x = omega arith
 latters-most (suc n) x = rw pow-suc (omega (arith, latters-most n (x / 4)))
 
-pub paired-below : (n a b : ℕ) → n ≤ 27 → paired n a b < 2 ^ 54
-paired-below n a b h = omega (arith, paired-most n a b, pow-le-pow-right {n = 4} (omega arith) h)
+-- Of at most 27 bits each, what is paired has 54 bits and what is taken apart 27
+pub paired-below : (n a b : ℕ) {r : ℕ} → r ≡ paired n a b → n ≤ 27 → r < 2 ^ 54
+paired-below n a b e h = omega (arith, paired-most n a b, pow-le-pow-right {n = 4} (omega arith) h)
 
-pub latters-below : (n x : ℕ) → n ≤ 27 → latters n x < 2 ^ 27
-latters-below n x h = omega (arith, latters-most n x, pow-le-pow-right {n = 2} (omega arith) h)
+pub latters-below : (n x : ℕ) {r : ℕ} → r ≡ latters n x → n ≤ 27 → r < 2 ^ 27
+latters-below n x e h = omega (arith, latters-most n x, pow-le-pow-right {n = 2} (omega arith) h)
 
 -- Paired bits are taken apart again
 pub latters-paired : (n a b : ℕ) → b < 2 ^ n → latters n (paired n a b) ≡ b
@@ -176,7 +177,7 @@ bits-below a h =
 -- The angle that 27 bits of a location tell, whichever they are, is below 2 to the 32
 pub angle-fits : (x : ℕ) {bits angle : ℕ} → bits ≡ latters 27 x → angle ≡ angleIn bits → angle < 2 ^ 32
 unfolding angleIn
-angle-fits x h e = omega (arith, latters-below 27 x (omega arith))
+angle-fits x h e = omega (arith, latters-below 27 x h (omega arith))
 
 -- An angle that a reference can have: a multiple of the smallest size, below its end
 pub record Angle (end a : ℕ) : Type 0 where
@@ -231,7 +232,7 @@ angle-back most b k =
 -- A location has 55 bits, and the last is 1
 pub location-below : (p : Point) → locationOf p < 2 ^ 55
 unfolding locationOf
-location-below p = closed (paired-below 27 (bitsOf (p .lat .0)) (bitsOf (p .lon .0)) (omega arith))
+location-below p = closed (paired-below 27 (bitsOf (p .lat .0)) (bitsOf (p .lon .0)) refl (omega arith))
   where
     closed : {n : ℕ} → n < 2 ^ 54 → n * 2 + 1 < 2 ^ 55
     closed h = omega arith

@@ -8,6 +8,7 @@ ghost use Rattle.unit.specs.Unit.{coding};
 ghost use Rattle.unit.specs.Frame.{leaves, Searched};
 use chosen::Choice;
 use ground::Rectangle;
+use unit::Admission;
 use unit::Coded;
 use unit::Kind;
 
@@ -43,10 +44,8 @@ fn chosen_of(numbers: &[u32], r: Rectangle) -> Choice
 pub fn code(room: &mut [u8], numbers: &[u32], kind: Kind, number: u32) -> Coded
     ensures { λ a. ⌜ leaves a (now (room .exit)) ≡ coding (now (room .entry)) (now (numbers .entry)) kind number ⌝ }
 {
-    let said = checking::checks(room.len(), numbers, kind, number);
-    if unit::coded_number(said) != 0 {
-        return said;
+    match checking::admit(room.len(), numbers, kind, number) {
+        Admission::Refused(answer) => answer,
+        Admission::Over(r) => ending::finish(room, r, number, chosen_of(numbers, r)),
     }
-    let r = unit::extremes(numbers);
-    ending::finish(room, r, number, chosen_of(numbers, r))
 }

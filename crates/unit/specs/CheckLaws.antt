@@ -97,22 +97,22 @@ number-most kind number e = at kind (passed (numberCheck kind number) tt e)
     at Other (bad, _) = let none : number ≡ 0 = eqb-true number 0 (not-false (eqb number 0) bad) in omega arith
 
 -- The tables before a cell is looked for leave all of that
-pub record Entered (room numbers : List ℕ) (number : ℕ) : Type 0 where
-  pub long : 20 ≤ length room
+pub record Entered (room : ℕ) (numbers : List ℕ) (number : ℕ) : Type 0 where
+  pub long : 20 ≤ room
   pub shape : Shaped numbers
   pub ground : Grounded (cornersOf numbers)
   pub most : number ≤ 1048575
 
-pub entered : (room numbers : List ℕ) (kind : Kind) (number : ℕ) → run (firstChecks (length room) numbers kind number) .number ≡ 0
+pub entered : (room : ℕ) (numbers : List ℕ) (kind : Kind) (number : ℕ) → run (firstChecks room numbers kind number) .number ≡ 0
     → Entered room numbers number
 unfolding firstChecks
 entered room numbers kind number e =
     let corners : List Point = cornersOf numbers in
-    let first = both-pass (roomCheck (length room)) (shapeChecks numbers ++ groundChecks corners ++ numberCheck kind number) tt e in
+    let first = both-pass (roomCheck room) (shapeChecks numbers ++ groundChecks corners ++ numberCheck kind number) tt e in
     let second = both-pass (shapeChecks numbers) (groundChecks corners ++ numberCheck kind number) tt (first .1) in
     let third = both-pass (groundChecks corners) (numberCheck kind number) tt (second .1) in
     record {
-      long = roomy (length room) (first .0);
+      long = roomy room (first .0);
       shape = shaped numbers (second .0);
       ground = grounded corners (third .0);
       most = number-most kind number (third .1);

@@ -159,7 +159,7 @@ chosen-inside {corners} g {c} chosen =
     (is .cell, true-of (inside (edgesOf corners) c) (is .within))
 
 -- and with checks 1 to 6 it passes, where its spans do
-pub passing : {room numbers : List ℕ} {number : ℕ} → Entered room numbers number → {c : Cell} → chosenCell (cornersOf numbers) ≡ At c
+pub passing : {room : ℕ} {numbers : List ℕ} {number : ℕ} → Entered room numbers number → {c : Cell} → chosenCell (cornersOf numbers) ≡ At c
     → above31 (unitFields (cornersOf numbers) number c) ≡ false → Passing (cornersOf numbers) number c
 passing h chosen spans =
     let is = chosen-inside (h .ground) chosen in
@@ -173,7 +173,7 @@ module _ (room numbers : List ℕ) (kind : Kind) (number : ℕ) where
       let corners : List Point = cornersOf numbers in
       let r : Rectangle = extremesOf corners in
       let all = all-accept (length room) numbers kind number (ap (λ (s : Said). s .number) e) in
-      let h = entered room numbers kind number (all .0) in
+      let h = entered (length room) numbers kind number (all .0) in
       let last = celled r number (chosenCell corners) (all .1) in
       let p = passing h (last .chosen) (last .spans) in
       record {

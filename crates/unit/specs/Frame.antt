@@ -3,9 +3,10 @@
 use Prim.Native.Nat.{ℕ, _/_, _≤_}
 use mathlib.Core.Bool.{cond}
 use mathlib.Core.List.{List, _++_}
+use mathlib.Core.Logic.{_⊎_, inl, inr}
 use lib.Dec.{eqb}
 use lib.ListN.{length}
-use Rattle.replies.specs.Replies.{Said, refused, accepted, Check, Outcome}
+use Rattle.replies.specs.Replies.{Said, refused, accepted, Check, run, Outcome}
 use Rattle.ground.specs.declared.Rectangle.{Rectangle}
 use Rattle.ground.specs.Cells.{isCell}
 use Rattle.code.specs.Code.{writing}
@@ -14,9 +15,12 @@ use Rattle.chosen.specs.declared.Choice.{Choice}
 use Rattle.chosen.specs.declared.Choice.the-variants.{At, Nowhere}
 use Rattle.unit.specs.declared.Coded.{Coded}
 use Rattle.unit.specs.declared.Coded.the-variants as coded
+use Rattle.unit.specs.declared.Admission.{Admission}
+use Rattle.unit.specs.declared.Admission.the-variants as admission
 use Rattle.corners.specs.Corners.{cornersOf}
 use Rattle.boundary.specs.Listed.{boundaryOf}
 use Rattle.chosen.specs.Chosen.{Over}
+use Rattle.unit.specs.Extents.{extremesOf}
 use Rattle.unit.specs.Unit.{fieldsOf, roomCheck, shapeChecks, groundChecks, numberCheck}
 
 -- The number and the place of each answer of coding
@@ -39,6 +43,17 @@ leaves answer room = record { said = says answer; room = room }
 unfoldable pub firstChecks : ℕ → List ℕ → Kind → ℕ → List Check
 firstChecks room numbers kind number =
     roomCheck room ++ shapeChecks numbers ++ groundChecks (cornersOf numbers) ++ numberCheck kind number
+
+-- What checks 1 to 6 leave to a road, in the terms of the definitions
+abbrev pub tells : Admission → Said ⊎ Rectangle
+tells (admission.Refused answer) = inl (says answer)
+tells (admission.Over r) = inr r
+
+-- The refusal of checks 1 to 6, or the unit's own extremes where they refuse nothing
+unfoldable pub admitting : ℕ → List ℕ → Kind → ℕ → Said ⊎ Rectangle
+admitting room numbers kind number =
+    let first : Said = run (firstChecks room numbers kind number) in
+    cond (eqb (first .number) 0) (inr (extremesOf (cornersOf numbers))) (inl first)
 
 -- What a road's search takes for granted: at most 1,024 corners, and what a search over extents and edges does
 pub record Searched (numbers : List ℕ) (r : Rectangle) : Type 0 where

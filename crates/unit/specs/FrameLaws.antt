@@ -6,9 +6,10 @@ use native.Mathlib.Omega.{arith}
 use mathlib.Core.Path.{_≡_, refl, ap, ap₂, sym, subst, _∙_}
 use mathlib.Core.Bool.{Bool, true, false, cond, true≢false}
 use mathlib.Core.List.{List, [], _∷_, _++_}
+use mathlib.Core.Logic.{_⊎_, inl, inr}
 use lib.Dec.{eqb}
 use lib.ListN.{length, take, replicate, length-replicate, drop, length-drop, length-append}
-use borrow.Author.Tests.{eq-eqb, ne-eqb, le-ltb}
+use borrow.Author.Tests.{eq-eqb, ne-eqb, le-ltb, eqb-true, eqb-false}
 use Rattle.replies.specs.Replies.{Said, Check, check, run, Outcome, outcome}
 use Rattle.facts.specs.Tests.{none-of}
 use Rattle.ground.specs.declared.Rectangle.{Rectangle}
@@ -27,6 +28,8 @@ use Rattle.chosen.specs.Chosen.{choose, Over}
 use Rattle.unit.specs.declared.Kind.{Kind}
 use Rattle.unit.specs.declared.Coded.{Coded}
 use Rattle.unit.specs.declared.Coded.the-variants as coded
+use Rattle.unit.specs.declared.Admission.{Admission}
+use Rattle.unit.specs.declared.Admission.the-variants as admission
 use Rattle.chosen.specs.declared.Choice.{Choice}
 use Rattle.chosen.specs.declared.Choice.the-variants.{At, Nowhere}
 use Rattle.unit.specs.Extents.{extremesOf}
@@ -34,7 +37,7 @@ use Rattle.unit.specs.ExtentsLaws.{over-range}
 use Rattle.unit.specs.Unit.{fieldsOf, above31, cellChecks, codeAt, chosenCell, codeChecks, coding}
 use Rattle.unit.specs.CheckLaws.{Entered, entered, first-refuses, first-accepts}
 use Rattle.unit.specs.Cover.{fields-good, chosen-inside, passing}
-use Rattle.unit.specs.Frame.{says, leaves, ending, firstChecks, finishing, Searched}
+use Rattle.unit.specs.Frame.{says, leaves, ending, firstChecks, tells, admitting, finishing, Searched}
 
 -- Writing that accepts ends in acceptance, and else in 8; the room is as writing left it
 pub ends : (o : Outcome) (answer : Written) (room : List ℕ) → code.leaves answer room ≡ o → code.says answer .number ≡ 0
@@ -114,6 +117,48 @@ module _ (numbers : List ℕ) {count : ℕ} (counted : count ≡ listedCount num
       ap₂ (λ (n : ℕ) (ns : List ℕ). edgesIn (take n ns)) (ap (λ (n : ℕ). 4 * n - 0) counted ∙ sub-zero (4 * listedCount numbers edgeRoom placeRoom)) e
       ∙ listed-boundary numbers edgeRoom placeRoom (have-room numbers edgeRoom placeRoom (omega (arith, s .most)) (omega (arith, s .most)))
 
+-- What checks 1 to 6 leave to a road, from what they say
+module _ (room : ℕ) (numbers : List ℕ) (kind : Kind) (number : ℕ) where
+  abbrev said-first : Said
+  said-first = run (firstChecks room numbers kind number)
+
+  module _ {said : Said} (first : said ≡ said-first) where
+    pub admitting-refuses : (said .number ≡ 0 → ⊥) → inl said ≡ admitting room numbers kind number
+    unfolding admitting
+    admitting-refuses h = rw (sym first, ne-eqb (said .number) 0 h)
+
+    pub admitting-accepts : said .number ≡ 0 → {r : Rectangle} → r ≡ extremesOf (cornersOf numbers) → inr r ≡ admitting room numbers kind number
+    unfolding admitting
+    admitting-accepts e own = rw (own, sym first, eq-eqb (said .number) 0 e)
+
+  -- and back: what they say, where one of them refuses, or the unit's own extremes, where none does
+  abbrev Admitted : Said ⊎ Rectangle → Type 0
+  Admitted (inl said) = (said ≡ said-first) × (said-first .number ≡ 0 → ⊥)
+  Admitted (inr r) = (r ≡ extremesOf (cornersOf numbers)) × (said-first .number ≡ 0)
+
+  admitted : (l : Said ⊎ Rectangle) → l ≡ admitting room numbers kind number → Admitted l
+  unfolding admitting
+  admitted l told = subst Admitted (sym told) (at (eqb (said-first .number) 0) refl)
+    where
+      at : (b : Bool) → eqb (said-first .number) 0 ≡ b → Admitted (cond b (inr (extremesOf (cornersOf numbers))) (inl said-first))
+      at true k = (refl, eqb-true (said-first .number) 0 k)
+      at false k = (refl, eqb-false (said-first .number) 0 k)
+
+  module _ {a : Admission} (told : tells a ≡ admitting room numbers kind number) where
+    admitted-refused : {answer : Coded} → a ≡ admission.Refused answer → Admitted (inl (says answer))
+    admitted-refused {answer} e = admitted (inl (says answer)) (ap tells (sym e) ∙ told)
+
+    admitted-over : {r : Rectangle} → a ≡ admission.Over r → Admitted (inr r)
+    admitted-over {r} e = admitted (inr r) (ap tells (sym e) ∙ told)
+
+    -- A road that they accept has what its search takes for granted
+    pub road-searches : {r : Rectangle} → a ≡ admission.Over r → Searched numbers r
+    road-searches e =
+        let h = admitted-over e in
+        let entry = entered room numbers kind number (h .1) in
+        let over = over-range (cornersOf numbers) (entry .ground .range) in
+        record { most = entry .shape .most; over = subst (λ (x : Rectangle). Over x (boundaryOf numbers)) (sym (h .0)) over }
+
 module _ (room numbers : List ℕ) (kind : Kind) (number : ℕ) where
   -- Checks 1 to 6
   abbrev firsts : List Check
@@ -131,9 +176,9 @@ module _ (room numbers : List ℕ) (kind : Kind) (number : ℕ) where
   framed e =
       let choice : Choice = chosenCell (cornersOf numbers) in
       ap (λ (s : Said). outcome s (codeAt (extremesOf (cornersOf numbers)) number choice) room) (first-accepts (length room) numbers kind number e)
-      ∙ at choice refl (entered room numbers kind number e)
+      ∙ at choice refl (entered (length room) numbers kind number e)
     where
-      at : (choice : Choice) → chosenCell (cornersOf numbers) ≡ choice → Entered room numbers number
+      at : (choice : Choice) → chosenCell (cornersOf numbers) ≡ choice → Entered (length room) numbers number
           → outcome (run (cellChecks (extremesOf (cornersOf numbers)) number choice)) (codeAt (extremesOf (cornersOf numbers)) number choice) room
           ≡ finishing room (extremesOf (cornersOf numbers)) number choice
       at (At c) chosen h =
@@ -142,27 +187,17 @@ module _ (room numbers : List ℕ) (kind : Kind) (number : ℕ) where
           ∙ finish-cell room r number c (is-cell c (chosen-inside (h .ground) chosen .0))
       at Nowhere chosen h = finish-nowhere room (extremesOf (cornersOf numbers)) number
 
-  module _ {said : Said} (first : said ≡ run firsts) where
-    -- So a road that checks 1 to 6 refuse says what they say and leaves the room
-    pub road-refused : (said .number ≡ 0 → ⊥) → record { said = said; room = room } ≡ coding room numbers kind number
-    road-refused h =
-        ap (λ (s : Said). record { said = s; room = room }) first
-        ∙ sym (framed-refused (λ e. h (ap (λ (s : Said). s .number) first ∙ e)))
+  module _ {a : Admission} (told : tells a ≡ admitting (length room) numbers kind number) where
+    -- So a road that they refuse says what they say and leaves the room
+    pub road-refused : {answer : Coded} → a ≡ admission.Refused answer → leaves answer room ≡ coding room numbers kind number
+    road-refused e =
+        let h = admitted-refused (length room) numbers kind number told e in
+        ap (λ (s : Said). record { said = s; room = room }) (h .0) ∙ sym (framed-refused (h .1))
 
-    module _ (accepts : said .number ≡ 0) {r : Rectangle} (own : r ≡ extremesOf (cornersOf numbers)) where
-      passes : run firsts .number ≡ 0
-      passes = sym (ap (λ (s : Said). s .number) first) ∙ accepts
-
-      -- one that they accept has what its search takes for granted
-      pub road-searches : Searched numbers r
-      road-searches =
-          let h = entered room numbers kind number passes in
-          let over = over-range (cornersOf numbers) (h .ground .range) in
-          record { most = h .shape .most; over = subst (λ (x : Rectangle). Over x (boundaryOf numbers)) (sym own) over }
-
-      -- and codes by ending around the chosen cell
-      pub road-ends : {o : Outcome} {choice : Choice} → choice ≡ choose r (boundaryOf numbers) → o ≡ finishing room r number choice
-          → o ≡ coding room numbers kind number
-      road-ends chosen ended =
-          let found = chosen ∙ ap (λ (x : Rectangle). choose x (boundaryOf numbers)) own in
-          ended ∙ ap₂ (λ (x : Rectangle) (y : Choice). finishing room x number y) own found ∙ sym (framed passes)
+    -- and one that they accept codes by ending around the chosen cell
+    pub road-ends : {r : Rectangle} → a ≡ admission.Over r → {o : Outcome} {choice : Choice} → choice ≡ choose r (boundaryOf numbers)
+        → o ≡ finishing room r number choice → o ≡ coding room numbers kind number
+    road-ends e chosen ended =
+        let h = admitted-over (length room) numbers kind number told e in
+        let found = chosen ∙ ap (λ (x : Rectangle). choose x (boundaryOf numbers)) (h .0) in
+        ended ∙ ap₂ (λ (x : Rectangle) (y : Choice). finishing room x number y) (h .0) found ∙ sym (framed (h .1))

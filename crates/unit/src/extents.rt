@@ -1,6 +1,5 @@
 // The extents of a unit, and its first corner above the range, over the caller's numbers.
 ghost use mathlib.Core.Path.{_≡_};
-ghost use Prim.Native.Nat.{_-_};
 ghost use Rattle.facts.specs.Places.{firstPlace};
 ghost use Rattle.corners.specs.Corners.{cornersOf};
 ghost use Rattle.unit.specs.Extents.{extremesOf, latExtent, lonExtent, spanOf};
@@ -41,29 +40,18 @@ pub fn extremes(numbers: &[u32]) -> Rectangle
     r
 }
 
-// A number less another, and 0 where that is greater.
-fn less(a: u32, b: u32) -> u32
-    ensures { λ r. ⌜ r ≡ a - b ⌝ }
-{
-    if a < b { 0 } else { a - b }
-}
-
 // The extent in latitude.
 fn lat_extent(r: Rectangle) -> u32
     ensures { λ e. ⌜ e ≡ latExtent r ⌝ }
 {
-    let south = r.south;
-    let north = r.north;
-    less(north.0, south.0)
+    ground::less(r.north.0, r.south.0)
 }
 
 // The extent in longitude.
 fn lon_extent(r: Rectangle) -> u32
     ensures { λ e. ⌜ e ≡ lonExtent r ⌝ }
 {
-    let west = r.west;
-    let east = r.east;
-    less(east.0, west.0)
+    ground::less(r.east.0, r.west.0)
 }
 
 // The larger of the two extents.

@@ -9,6 +9,7 @@ pub use extents::span;
 ghost use mathlib.Core.Path.{_≡_};
 ghost use Rattle.unit.specs.Frame.{says};
 ghost use Rattle.unit.specs.Unit.{kindOf};
+use ground::Rectangle;
 
 // The kind of a unit.
 pub enum Kind {
@@ -37,6 +38,12 @@ pub enum Coded {
     Number,
     NoCell,
     Span,
+}
+
+// What checks 1 to 6 leave to a road: their refusal, or the extents over which it looks for a cell.
+pub enum Admission {
+    Refused(Coded),
+    Over(Rectangle),
 }
 
 // The number of an answer of coding.

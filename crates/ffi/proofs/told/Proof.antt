@@ -9,7 +9,6 @@ use Rattle.code.specs.declared.Reading.{Reading}
 use Rattle.code.specs.declared.Reading.the-variants as reads
 use Rattle.code.specs.Code.{tells, tellsNothing}
 use Rattle.code.proofs.Reading.{the-type}
-use Rattle.ffi.specs.declared.Reply.{Reply}
 use Rattle.ffi.specs.Replying.{says-both, accepts}
 use Rattle.ffi.proofs.told.Statement.{statement}
 use Rattle.ffi.proofs.told.Tie as tie
@@ -35,26 +34,11 @@ reading-place-requires c κs = search needs
 enum-known-answer : tie.Need-enum-known-answer
 enum-known-answer c = search needs
 
-fields-in-numbers-requires : tie.Need-fields-in-numbers-requires
-fields-in-numbers-requires c κs = search needs
-
-sides-in-numbers-requires : tie.Need-sides-in-numbers-requires
-sides-in-numbers-requires c κs = search needs
-
 refused-requires : tie.Need-refused-requires
 refused-requires c κs = search needs
 
 returns : tie.Need-returns
-returns c =
-    let place = c .before .before .before .before .before in
-    let a = place .before .before .args in
-    let seen = c .before .before .before .answer .given in
-    let fields = c .before .fields-in-numbers in
-    let sides = c .sides-in-numbers in
-    let reply : Reply = record { number = place .before .reading-number .result; place = place .reading-place .result } in
-    accepts (record { reply = reply; fields = fields .result; rectangle = sides .result }) (a .answer) (seen .0 .0) (seen .0 .1 .0) (seen .1)
-    (says-both (tells (a .answer) .said) (place .before .reading-number .ensures) (place .reading-place .ensures))
-    (fields .ensures) (sides .ensures)
+returns c = search (needs, accepts)
 
 returns-2 : tie.Need-returns-2
 returns-2 c =
@@ -71,8 +55,6 @@ told-spec =
     reading-number-requires
     reading-place-requires
     enum-known-answer
-    fields-in-numbers-requires
-    sides-in-numbers-requires
     refused-requires
     returns
     returns-2)

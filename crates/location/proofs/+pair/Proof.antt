@@ -1,9 +1,9 @@
 -- `location::pair` meets its contract: one bit more, by the law of the definition. Assumes nothing.
 use borrow.Author.Needs.{needs}
-use mathlib.Core.Path.{sym, subst}
+use mathlib.Core.Path.{sym}
 use native.Mathlib.Omega.{arith}
 use Rattle.location.specs.LocationLaws.{paired-none, paired-more, paired-below}
-use Prim.Native.Nat.{ℕ, _-_, _/_, _^_, _<_}
+use Prim.Native.Nat.{ℕ, _<_}
 use borrow.Fn.Kinds.{In}
 use borrow.Fn.PlainCycle.{Measures, is, falls, and}
 use Rattle.location.proofs.pair.Reads as pair
@@ -21,12 +21,6 @@ pair-at t = and 0 pair-kinds.ps (is 0 pair-kinds.ps μ-pair t) pair.Pre
 abbrev pair-below : ℕ → In 0 pair-kinds.ps
 pair-below t = and 0 pair-kinds.ps (falls 0 pair-kinds.ps _<_ μ-pair t) pair.Pre
 
--- what the shorter call gives is small enough to be doubled twice
-below : (t : ℕ) (c : pair-lts.After-pair (pair-below t, pair.Post) (pair-at t) pair.Post) → c .pair .result < 2 ^ 54
-below t c =
-    let a = c .before .before .args in
-    subst (λ (k : ℕ). k < 2 ^ 54) (sym (c .pair .ensures)) (paired-below (a .n - 1) (a .a / 2) (a .b / 2) (search needs))
-
 pair-returns : (t : ℕ) → pair-lts.Need-returns (pair-below t, pair.Post) (pair-at t) pair.Post
 pair-returns t c = let a = c .before .args in sym (paired-none (a .n) (a .a) (a .b) (c .if1 .taken))
 
@@ -39,7 +33,7 @@ pair-pair-requires t c κs = search needs
 
 pair-mul-result :
     (t : ℕ) → pair-lts.Need-mul-result (pair-below t, pair.Post) (pair-at t) pair.Post
-pair-mul-result t c = omega (arith, below t c)
+pair-mul-result t c = omega (arith, paired-below _ _ _ (c .pair .ensures) (search needs))
 
 pair-mul-result-2 :
     (t : ℕ) → pair-lts.Need-mul-result-2 (pair-below t, pair.Post) (pair-at t) pair.Post
@@ -55,7 +49,7 @@ pair-cast-result t c = search needs
 
 pair-add-result-2 :
     (t : ℕ) → pair-lts.Need-add-result-2 (pair-below t, pair.Post) (pair-at t) pair.Post
-pair-add-result-2 t c = omega (arith, below t c)
+pair-add-result-2 t c = omega (arith, paired-below _ _ _ (c .pair .ensures) (search needs))
 
 pair-returns-2 : (t : ℕ) → pair-lts.Need-returns-2 (pair-below t, pair.Post) (pair-at t) pair.Post
 pair-returns-2 t c =

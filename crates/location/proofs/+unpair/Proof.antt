@@ -1,9 +1,9 @@
 -- `location::unpair` meets its contract: one bit more, by the law of the definition. Assumes nothing.
 use borrow.Author.Needs.{needs}
-use mathlib.Core.Path.{sym, subst}
+use mathlib.Core.Path.{sym}
 use native.Mathlib.Omega.{arith}
 use Rattle.location.specs.LocationLaws.{latters-none, latters-more, latters-below}
-use Prim.Native.Nat.{ℕ, _-_, _/_, _^_, _<_}
+use Prim.Native.Nat.{ℕ, _<_}
 use borrow.Fn.Kinds.{In}
 use borrow.Fn.PlainCycle.{Measures, is, falls, and}
 use Rattle.location.proofs.unpair.Reads as unpair
@@ -21,12 +21,6 @@ unpair-at t = and 0 unpair-kinds.ps (is 0 unpair-kinds.ps μ-unpair t) unpair.Pr
 abbrev unpair-below : ℕ → In 0 unpair-kinds.ps
 unpair-below t = and 0 unpair-kinds.ps (falls 0 unpair-kinds.ps _<_ μ-unpair t) unpair.Pre
 
--- what the shorter call gives is small enough to be doubled
-below : (t : ℕ) (c : unpair-lts.After-unpair (unpair-below t, unpair.Post) (unpair-at t) unpair.Post) → c .unpair .result < 2 ^ 27
-below t c =
-    let a = c .before .before .args in
-    subst (λ (k : ℕ). k < 2 ^ 27) (sym (c .unpair .ensures)) (latters-below (a .n - 1) (a .x / 4) (search needs))
-
 unpair-returns :
     (t : ℕ) → unpair-lts.Need-returns (unpair-below t, unpair.Post) (unpair-at t) unpair.Post
 unpair-returns t c = let a = c .before .args in sym (latters-none (a .n) (a .x) (c .if1 .taken))
@@ -42,7 +36,7 @@ unpair-unpair-requires t c κs = search needs
 
 unpair-mul-result :
     (t : ℕ) → unpair-lts.Need-mul-result (unpair-below t, unpair.Post) (unpair-at t) unpair.Post
-unpair-mul-result t c = omega (arith, below t c)
+unpair-mul-result t c = omega (arith, latters-below _ _ (c .unpair .ensures) (search needs))
 
 unpair-cast-result :
     (t : ℕ) → unpair-lts.Need-cast-result (unpair-below t, unpair.Post) (unpair-at t) unpair.Post
@@ -50,7 +44,7 @@ unpair-cast-result t c = search needs
 
 unpair-add-result :
     (t : ℕ) → unpair-lts.Need-add-result (unpair-below t, unpair.Post) (unpair-at t) unpair.Post
-unpair-add-result t c = omega (arith, below t c)
+unpair-add-result t c = omega (arith, latters-below _ _ (c .unpair .ensures) (search needs))
 
 unpair-returns-2 :
     (t : ℕ) → unpair-lts.Need-returns-2 (unpair-below t, unpair.Post) (unpair-at t) unpair.Post

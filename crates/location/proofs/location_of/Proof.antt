@@ -1,6 +1,4 @@
 -- `location::location_of` meets its contract. Assumes nothing.
-use Prim.Native.Nat.{ℕ, _^_, _<_}
-use mathlib.Core.Path.{sym, subst}
 use native.Mathlib.Omega.{arith}
 use Rattle.location.specs.Location.{locationOf}
 use Rattle.location.specs.LocationLaws.{paired-below}
@@ -17,16 +15,11 @@ bits-of-requires-2 c κs = search needs
 pair-requires : tie.Need-pair-requires
 pair-requires c κs = search needs
 
--- 54 bits
-below : (c : tie.After-pair) → c .pair .result < 2 ^ 54
-below c =
-    subst (λ (k : ℕ). k < 2 ^ 54) (sym (c .pair .ensures)) (paired-below 27 (c .before .before .bits-of .result) (c .before .bits-of2 .result) (omega arith))
-
 mul-result : tie.Need-mul-result
-mul-result c = omega (arith, below c)
+mul-result c = omega (arith, paired-below 27 _ _ (c .pair .ensures) (omega arith))
 
 add-result : tie.Need-add-result
-add-result c = omega (arith, below c)
+add-result c = omega (arith, paired-below 27 _ _ (c .pair .ensures) (omega arith))
 
 returns : tie.Need-returns
 unfolding locationOf

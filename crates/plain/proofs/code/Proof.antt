@@ -1,51 +1,42 @@
--- `plain::code` meets its contract: the frame around the chosen cell. Assumes nothing.
-use mathlib.Core.Path.{sym, _∙_}
+-- `plain::code` meets its contract: by the frame's laws, from what the checks leave to it and its search finds. Assumes nothing.
 use borrow.Author.Needs.{needs}
 use Rattle.unit.specs.FrameLaws.{road-refused, road-searches, road-ends}
 use Rattle.plain.proofs.code.Statement.{statement}
 use Rattle.plain.proofs.code.Tie as tie
 
-checks-requires : tie.Need-checks-requires
-checks-requires c κs = search needs
+admit-requires : tie.Need-admit-requires
+admit-requires c κs = search needs
 
-coded-number-requires : tie.Need-coded-number-requires
-coded-number-requires c κs = search needs
+enum-known-answer : tie.Need-enum-known-answer
+enum-known-answer c = search needs
 
-returns : tie.Need-returns
-returns c = road-refused _ _ _ _ (c .before .before .checks .ensures) (λ e. c .if1 .taken (c .before .coded-number .ensures ∙ e))
-
-extremes-requires : tie.Need-extremes-requires
-extremes-requires c κs = search needs
+enum-known-r : tie.Need-enum-known-r
+enum-known-r c = search needs
 
 chosen-of-requires : tie.Need-chosen-of-requires
-chosen-of-requires c κs =
-    let passed = c .before .before in
-    let a = passed .before .before .before .before .before .args in
-    road-searches (a .room .now) _ (a .kind) (a .number) (passed .before .before .checks .ensures)
-    (sym (passed .before .coded-number .ensures) ∙ passed .if1 .left) (c .before .extremes .ensures)
+chosen-of-requires c κs = search (needs, road-searches)
 
 finish-requires : tie.Need-finish-requires
 finish-requires c κs = search needs
+
+returns : tie.Need-returns
+returns c = search (needs, road-refused)
 
 same-length : tie.Need-same-length
 same-length c = search needs
 
 returns-2 : tie.Need-returns-2
-returns-2 c =
-    let found = c .before .before .before in
-    let passed = found .before .before .before in
-    road-ends _ _ _ _ (passed .before .before .checks .ensures) (sym (passed .before .coded-number .ensures) ∙ passed .if1 .left)
-    (found .before .before .extremes .ensures) (found .chosen-of .ensures) (c .before .before .finish .ensures)
+returns-2 c = search (needs, road-ends)
 
 pub code-spec : {M : Type 1} → statement M
 code-spec =
     tie.close
     (tie.spec
-    checks-requires
-    coded-number-requires
-    returns
-    extremes-requires
+    admit-requires
+    enum-known-answer
+    enum-known-r
     chosen-of-requires
     finish-requires
+    returns
     same-length
     returns-2)

@@ -46,9 +46,7 @@ misses-requires : tie.Need-misses-requires Inv-loop μ-loop
 misses-requires c κs = search needs
 
 returns : tie.Need-returns Inv-loop μ-loop
-returns c =
-    let at = c .before .before .before .before in
-    unmet-met (at .before .loop .inv) (at .loop-test .taken) (told (c .before)) (c .if1 .taken)
+returns c = search (needs, unmet-met, told (c .before))
 
 add-i : tie.Need-add-i Inv-loop μ-loop
 add-i c = search needs
@@ -57,9 +55,7 @@ loop-less : tie.Need-loop-less Inv-loop μ-loop
 loop-less c = search needs
 
 loop-again : tie.Need-loop-again Inv-loop μ-loop
-loop-again c =
-    let at = c .before .before .before .before in
-    unmet-again (at .before .loop .inv) (at .loop-test .taken) (told (c .before)) (c .if1 .left)
+loop-again c = search (needs, unmet-again, told (c .before))
 
 returns-2 : tie.Need-returns-2 Inv-loop μ-loop
 returns-2 c = unmet-end (c .before .loop .inv) (c .loop-test .left)

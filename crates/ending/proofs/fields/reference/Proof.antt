@@ -24,7 +24,7 @@ less-requires-2 c κs = search needs
 
 returns-2 : tie.Need-returns-2
 returns-2 c =
-    let ce = c .before .before .before .before in
+    let ce = c .before .before in
     let a = ce .before .before .before .before .before .args in
     let at : ℕ → ℕ → Point = λ x y. record { lat = lat x; lon = lon y } in
     ap₂ at (c .before .less .ensures) (c .less2 .ensures)

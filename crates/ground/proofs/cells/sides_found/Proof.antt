@@ -1,10 +1,10 @@
 -- `ground::cells::sides_found` meets its contract: the first part of the test that fails decides. Assumes nothing.
 use Prim.Native.Nat.{_≤_}
 use native.Mathlib.Omega.{arith}
-use mathlib.Core.Path.{sym, _∙_}
+use mathlib.Core.Path.{_≡_, sym, _∙_}
 use borrow.Author.Tests.{le-leb, lt-leb, not-true, not-false}
 use Rattle.ground.specs.Levels.{latEnd, lonEnd}
-use Rattle.ground.specs.Cells.{highSide, sidesOf, isCell, sidesFound}
+use Rattle.ground.specs.Cells.{highSide, sidesOf, isSide, isCell, sidesFound}
 use Rattle.ground.specs.CellsLaws.{side-ends}
 use borrow.Author.Needs.{needs}
 use Rattle.ground.proofs.cells.sides_found.Statement.{statement}
@@ -18,6 +18,20 @@ ends c =
     let a = c3 .before .before .before .before .before .before .args .c in (
       side-ends (a .level) (a .west .0) lonEnd (sym (c3 .before .is-side .ensures) ∙ not-false _ (c3 .if3 .left)),
       side-ends (a .level) (a .south .0) latEnd (sym (c .before .is-side2 .ensures) ∙ not-false _ (c .if4 .left)),
+    )
+
+-- where the tests up to the west side pass, the south side decides
+so-far : (c : tie.Else3)
+    → let a = c .before .before .before .before .before .before .args .c in
+    isCell a ≡ isSide (a .level) (a .south .0) latEnd
+unfolding isCell
+so-far c =
+    let c2 = c .before .before in
+    let level = c2 .before .before .before .before .args .c .level in
+    rw (
+      le-leb 9 level (c2 .before .if1 .left),
+      le-leb level 27 (c2 .if2 .left),
+      sym (c .before .is-side .ensures) ∙ not-false _ (c .if3 .left),
     )
 
 returns : tie.Need-returns
@@ -44,17 +58,8 @@ is-side-requires-2 : tie.Need-is-side-requires-2
 is-side-requires-2 c κs = search needs
 
 returns-4 : tie.Need-returns-4
-unfolding sidesFound isCell
-returns-4 c =
-    let c3 = c .before .before in
-    let c2 = c3 .before .before in
-    let level = c2 .before .before .before .before .args .c .level in
-    rw (
-      le-leb 9 level (c2 .before .if1 .left),
-      le-leb level 27 (c2 .if2 .left),
-      sym (c3 .before .is-side .ensures) ∙ not-false _ (c3 .if3 .left),
-      sym (c .before .is-side2 .ensures) ∙ not-true _ (c .if4 .taken),
-    )
+unfolding sidesFound
+returns-4 c = rw (so-far (c .before .before), sym (c .before .is-side2 .ensures) ∙ not-true _ (c .if4 .taken))
 
 high-side-requires : tie.Need-high-side-requires
 high-side-requires c κs = search needs
@@ -69,17 +74,12 @@ cast-t11 : tie.Need-cast-t11
 cast-t11 c = omega (arith, c .high-side2 .ensures, ends (c .before .before) .1)
 
 returns-5 : tie.Need-returns-5
-unfolding sidesFound isCell sidesOf
+unfolding sidesFound sidesOf
 returns-5 c =
-    let c4 = c .before .before in
-    let c3 = c4 .before .before in
-    let c2 = c3 .before .before in
-    let level = c2 .before .before .before .before .args .c .level in
+    let last = c .before .before in
     rw (
-      le-leb 9 level (c2 .before .if1 .left),
-      le-leb level 27 (c2 .if2 .left),
-      sym (c3 .before .is-side .ensures) ∙ not-false _ (c3 .if3 .left),
-      sym (c4 .before .is-side2 .ensures) ∙ not-false _ (c4 .if4 .left),
+      so-far (last .before .before),
+      sym (last .before .is-side2 .ensures) ∙ not-false _ (last .if4 .left),
       c .before .high-side .ensures,
       c .high-side2 .ensures,
     )
