@@ -128,8 +128,7 @@ fn strictly_between(low: u32, n: u32, high: u32) -> bool
 fn strictly_within(p: Point, r: Rectangle) -> bool
     ensures { λ m. ⌜ m ≡ strictlyWithin r p ⌝ }
 {
-    strictly_between(r.west.0, p.lon.0, r.east.0)
-        && strictly_between(r.south.0, p.lat.0, r.north.0)
+    strictly_between(r.west.0, p.lon.0, r.east.0) && strictly_between(r.south.0, p.lat.0, r.north.0)
 }
 
 // Whether the ends of an edge are two points.

@@ -259,7 +259,7 @@ module _ (t : ℕ) where
       let s = lat-start (lat-asked (lat-some own .before)) in
       let answer = lat-below (lat-owned own) (lat-some own .if2 .left) (call .by-lon .result) (lat-owned-unmet own) (call .by-lon .ensures .0) in (
         subst (λ (g : Rectangle). First (boundaryOf (s .args .numbers .now)) (s .args .sought .finest - s .args .left / 2) (s .args .sought .finest) g (s .args .found) (call .by-lon .result))
-        (own .sorted .ensures .0 .0) answer,
+            (own .sorted .ensures .0 .0) answer,
         same-then (s .args .room .now) (own .sorted .last .1 .0) (call .by-lon .last .1 .0) (own .sorted .ensures .1) (call .by-lon .ensures .1),
       )
 
@@ -277,7 +277,7 @@ module _ (t : ℕ) where
       let s = lat-start (lat-asked (lat-some own .before)) in (
         omega (arith, s .pre .0, some),
         subst (λ (h : Half). ByLon (boundaryOf (s .args .numbers .now)) (own .sorted .last .1 .0) h (s .args .sought) (s .args .left - 1) (s .args .found))
-        (sym (c .south-half .ensures)) (lat-south (lat-owned own) some (both .before .before .before .lat-split .ensures) (lat-split both)),
+            (sym (c .south-half .ensures)) (lat-south (lat-owned own) some (both .before .before .before .lat-split .ensures) (lat-split both)),
       )
 
   by-lat-north-half-requires : by-lat-lts.Need-north-half-requires (lat-calls t) (by-lat-at t) by-lat.Post
@@ -295,9 +295,9 @@ module _ (t : ℕ) where
       let s = lat-start (lat-asked (lat-some own .before)) in (
         omega (arith, s .pre .0, some),
         subst (λ (h : Half). ByLon (boundaryOf (s .args .numbers .now)) (first .by-lon2 .last .1 .0) h (s .args .sought) (s .args .left - 1) (first .by-lon2 .result))
-        (sym (c .north-half .ensures))
-        (lat-north (lat-owned own) some (both .before .before .before .lat-split .ensures) (lat-split both)
-        (sound-same (own .sorted .ensures .0 .1) (lat-kept first) (search needs)) (first .by-lon2 .result) (lat-first first)),
+            (sym (c .north-half .ensures))
+            (lat-north (lat-owned own) some (both .before .before .before .lat-split .ensures) (lat-split both)
+            (sound-same (own .sorted .ensures .0 .1) (lat-kept first) (search needs)) (first .by-lon2 .result) (lat-first first)),
       )
 
   by-lat-same-length-5 : by-lat-lts.Need-same-length-5 (lat-calls t) (by-lat-at t) by-lat.Post
@@ -324,7 +324,7 @@ module _ (t : ℕ) where
       kept (first .by-lon2 .result) (lat-first first) (call .by-lon3 .result) (lat-owned-unmet own) (first-as (north .north-half .ensures) (call .by-lon3 .ensures .0)) in
       let last = same-as (first .by-lon2 .last .1 .0) (call .by-lon3 .last .1 .0) (north .north-half .ensures) (call .by-lon3 .ensures .1) in (
         subst (λ (g : Rectangle). First (boundaryOf (s .args .numbers .now)) (s .args .sought .finest - s .args .left / 2) (s .args .sought .finest) g (s .args .found) (call .by-lon3 .result))
-        (own .sorted .ensures .0 .0) answer,
+            (own .sorted .ensures .0 .0) answer,
         same-then (s .args .room .now) (own .sorted .last .1 .0) (call .by-lon3 .last .1 .0) (own .sorted .ensures .1) (λ j h. last j h ∙ lat-kept first j h),
       )
 
@@ -469,7 +469,7 @@ module _ (t : ℕ) where
       let s = lon-start (lon-asked (own .before)) in (
         omega (arith, s .pre .0, s .pre .1 .odd),
         subst (λ (h : Half). ByLat (boundaryOf (s .args .numbers .now)) (s .args .room .now) h (s .args .sought) (s .args .left - 1) (s .args .found))
-        (sym (c .west-half .ensures)) (lon-west (lon-owned own) (lon-at (both .before)) (lon-split both)),
+            (sym (c .west-half .ensures)) (lon-west (lon-owned own) (lon-at (both .before)) (lon-split both)),
       )
 
   by-lon-east-half-requires : by-lon-lts.Need-east-half-requires (lon-calls t) (by-lon-at t) by-lon.Post
@@ -486,9 +486,9 @@ module _ (t : ℕ) where
       let s = lon-start (lon-asked (own .before)) in (
         omega (arith, s .pre .0, s .pre .1 .odd),
         subst (λ (h : Half). ByLat (boundaryOf (s .args .numbers .now)) (first .by-lat2 .last .1 .0) h (s .args .sought) (s .args .left - 1) (first .by-lat2 .result))
-        (sym (c .east-half .ensures))
-        (lon-east (lon-owned own) (lon-at (both .before)) (lon-split both) (sound-same (lon-owned own .sound) (lon-kept first) (search needs))
-        (first .by-lat2 .result) (lon-first first)),
+            (sym (c .east-half .ensures))
+            (lon-east (lon-owned own) (lon-at (both .before)) (lon-split both) (sound-same (lon-owned own .sound) (lon-kept first) (search needs))
+            (first .by-lat2 .result) (lon-first first)),
       )
 
   by-lon-same-length-4 : by-lon-lts.Need-same-length-4 (lon-calls t) (by-lon-at t) by-lon.Post
