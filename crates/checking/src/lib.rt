@@ -4,9 +4,11 @@ ghost use mathlib.Core.Path.{_≡_};
 ghost use lib.ListN.{length};
 ghost use Rattle.replies.specs.Replies.{run};
 ghost use Rattle.corners.specs.Corners.{cornersOf};
+ghost use Rattle.unit.specs.Extents.{extremesOf};
 ghost use Rattle.unit.specs.Unit.{badNumber, roomCheck, shapeChecks, groundChecks, numberCheck};
 ghost use Rattle.unit.specs.Frame.{says, firstChecks, tells, admitting};
 use ground::DEGREE;
+use ground::Rectangle;
 use unit::Admission;
 use unit::Coded;
 use unit::Kind;
@@ -36,9 +38,10 @@ fn shape_checks(numbers: &[u32]) -> Coded
     Coded::Accepted
 }
 
-// What checks 4 and 5 say of at most 1,024 corners.
-fn ground_checks(numbers: &[u32]) -> Coded
+// What checks 4 and 5 say of at most 1,024 corners and their extremes.
+fn ground_checks(numbers: &[u32], r: Rectangle) -> Coded
     requires { ⌜ length (now numbers) / 2 ≤ 1024 ⌝ }
+    requires { ⌜ r ≡ extremesOf (cornersOf (now numbers)) ⌝ }
     ensures { λ r. ⌜ says r ≡ run (groundChecks (cornersOf (now (numbers .entry)))) ⌝ }
 {
     let above = unit::first_above(numbers);
@@ -46,7 +49,7 @@ fn ground_checks(numbers: &[u32]) -> Coded
         let corner = above as u32;
         return Coded::Range(corner);
     }
-    if DEGREE < unit::span(unit::extremes(numbers)) {
+    if DEGREE < unit::span(r) {
         return Coded::Extent;
     }
     Coded::Accepted
@@ -73,7 +76,8 @@ fn number_check(kind: Kind, number: u32) -> Coded
 }
 
 // What checks 1 to 6 say of so many bytes of room: the first that refuses, or acceptance.
-fn checks(room: usize, numbers: &[u32], kind: Kind, number: u32) -> Coded
+fn checks(room: usize, numbers: &[u32], r: Rectangle, kind: Kind, number: u32) -> Coded
+    requires { ⌜ r ≡ extremesOf (cornersOf (now numbers)) ⌝ }
     ensures { λ r. ⌜ says r ≡ run (firstChecks room (now (numbers .entry)) kind number) ⌝ }
 {
     let roomy = room_check(room);
@@ -84,7 +88,7 @@ fn checks(room: usize, numbers: &[u32], kind: Kind, number: u32) -> Coded
     if coded_number(shaped) != 0 {
         return shaped;
     }
-    let grounded = ground_checks(numbers);
+    let grounded = ground_checks(numbers, r);
     if coded_number(grounded) != 0 {
         return grounded;
     }
@@ -92,13 +96,14 @@ fn checks(room: usize, numbers: &[u32], kind: Kind, number: u32) -> Coded
 }
 
 // What checks 1 to 6 leave to a road: the refusal of the first that refuses, or the unit's own extremes;
-// a cell is looked for only then.
+// a cell is looked for only then. The extremes are worked out once, for check 5 and for the road.
 pub fn admit(room: usize, numbers: &[u32], kind: Kind, number: u32) -> Admission
     ensures { λ r. ⌜ tells r ≡ admitting room (now (numbers .entry)) kind number ⌝ }
 {
-    let said = checks(room, numbers, kind, number);
+    let r = unit::extremes(numbers);
+    let said = checks(room, numbers, r, kind, number);
     if coded_number(said) != 0 {
         return Admission::Refused(said);
     }
-    Admission::Over(unit::extremes(numbers))
+    Admission::Over(r)
 }

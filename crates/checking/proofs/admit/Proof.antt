@@ -5,6 +5,9 @@ use Rattle.unit.specs.FrameLaws.{admitting-refuses, admitting-accepts}
 use Rattle.checking.proofs.admit.Statement.{statement}
 use Rattle.checking.proofs.admit.Tie as tie
 
+extremes-requires : tie.Need-extremes-requires
+extremes-requires c κs = search needs
+
 checks-requires : tie.Need-checks-requires
 checks-requires c κs = search needs
 
@@ -14,15 +17,11 @@ coded-number-requires c κs = search needs
 returns : tie.Need-returns
 returns c = admitting-refuses _ _ _ _ (c .before .before .checks .ensures) (λ e. c .if1 .taken (c .before .coded-number .ensures ∙ e))
 
-extremes-requires : tie.Need-extremes-requires
-extremes-requires c κs = search needs
-
 returns-2 : tie.Need-returns-2
 returns-2 c =
-    let passed = c .before in
-    admitting-accepts _ _ _ _ (passed .before .before .checks .ensures) (sym (passed .before .coded-number .ensures) ∙ passed .if1 .left)
-    (c .extremes .ensures)
+    let said = c .before .before in
+    admitting-accepts _ _ _ _ (said .checks .ensures) (sym (c .before .coded-number .ensures) ∙ c .if1 .left) (said .before .extremes .ensures)
 
 pub admit-spec : {M : Type 1} → statement M
 admit-spec =
-    tie.close (tie.spec checks-requires coded-number-requires returns extremes-requires returns-2)
+    tie.close (tie.spec extremes-requires checks-requires coded-number-requires returns returns-2)

@@ -73,8 +73,8 @@ returns-2 c =
 
 ground-checks-requires : tie.Need-ground-checks-requires
 ground-checks-requires c κs =
-    let numbers = c .before .before .before .before .before .before .before .args .numbers .now in
-    shaped numbers (ap (λ (s : Said). s .number) (sym (c .before .before .shape-checks .ensures)) ∙ accepts c) .most
+    let start = c .before .before .before .before .before .before .before in
+    (shaped (start .args .numbers .now) (ap (λ (s : Said). s .number) (sym (c .before .before .shape-checks .ensures)) ∙ accepts c) .most, start .pre)
 
 coded-number-requires-3 : tie.Need-coded-number-requires-3
 coded-number-requires-3 c κs = search needs

@@ -38,10 +38,11 @@ none c =
 
 -- and what check 5 says, by the span
 told : (c : tie.After-span)
-    → aboveDegree (extremesOf (cornersOf (c .before .before .before .before .before .args .numbers .now))) ≡ ltb degree (c .span .result)
+    → aboveDegree (extremesOf (cornersOf (c .before .before .before .before .args .numbers .now))) ≡ ltb degree (c .span .result)
 told c =
-    sym (span-above (extremesOf (cornersOf (c .before .before .before .before .before .args .numbers .now))))
-    ∙ ap (λ (r : Rectangle). ltb degree (spanOf r)) (sym (c .before .extremes .ensures)) ∙ ap (ltb degree) (sym (c .span .ensures))
+    let start = c .before .before .before .before in
+    sym (span-above (extremesOf (cornersOf (start .args .numbers .now))))
+    ∙ ap (λ (r : Rectangle). ltb degree (spanOf r)) (sym (start .pre .1)) ∙ ap (ltb degree) (sym (c .span .ensures))
 
 first-above-requires : tie.Need-first-above-requires
 first-above-requires c κs = search needs
@@ -52,17 +53,14 @@ cast-corner c = search needs
 returns : tie.Need-returns
 returns c = rw (found c, c .before .first-above .ensures)
 
-extremes-requires : tie.Need-extremes-requires
-extremes-requires c κs = search needs
-
 span-requires : tie.Need-span-requires
 span-requires c κs = search needs
 
 returns-2 : tie.Need-returns-2
-returns-2 c = rw (none (c .before .before .before), told (c .before) ∙ lt-ltb degree (c .before .span .result) (omega (arith, c .if2 .taken)))
+returns-2 c = rw (none (c .before .before), told (c .before) ∙ lt-ltb degree (c .before .span .result) (omega (arith, c .if2 .taken)))
 
 returns-3 : tie.Need-returns-3
-returns-3 c = rw (none (c .before .before .before), told (c .before) ∙ le-ltb degree (c .before .span .result) (omega (arith, c .if2 .left)))
+returns-3 c = rw (none (c .before .before), told (c .before) ∙ le-ltb degree (c .before .span .result) (omega (arith, c .if2 .left)))
 
 pub ground-checks-spec : {M : Type 1} → statement M
 ground-checks-spec =
@@ -71,7 +69,6 @@ ground-checks-spec =
     first-above-requires
     cast-corner
     returns
-    extremes-requires
     span-requires
     returns-2
     returns-3)
