@@ -17,7 +17,7 @@ use Rattle.ground.specs.declared.Lon.{Lon}
 use Rattle.ground.specs.declared.Point.{Point}
 use Rattle.ground.specs.declared.Rectangle.{Rectangle}
 use Rattle.ground.specs.Levels.{lat, lon}
-use Rattle.ground.specs.Rectangles.{at, Within, Lies, Wide, southWest, southOf, northOf, westOf, eastOf}
+use Rattle.ground.specs.Rectangles.{at, Lies, southWest, southOf, northOf, westOf, eastOf}
 use Rattle.ground.specs.RectanglesLaws.{wide-ordered, within-self, within-then, lies-within, corner-lies}
 use Rattle.edge.specs.Edge.{Edge, edge, misses, turns}
 use Rattle.boundary.specs.Boundary.{pointInside, unmet}
@@ -27,7 +27,7 @@ use Rattle.boundary.specs.Keeps.{Keeps, keeps-inner, keeps-drop, keeps-unmet, k
 use Rattle.boundary.specs.Listed.{edgesIn, edgeIn, withEdge}
 use Rattle.boundary.specs.ListedLaws.{edges-length, edges-from, with-length, edge-there, edge-before}
 use Rattle.quick.specs.declared.half.Half.{Half}
-use Rattle.quick.specs.Half.{keptIn, meeting, MissedTo, MetFirst, Same, Sound, partOf, startingAt, Part, Between, AllIn}
+use Rattle.quick.specs.Half.{keptIn, meeting, MissedTo, NearFirst, MetFirst, Same, Sound, partOf, startingAt, Part, Between, AllIn}
 
 -- Edges that are the same at so many places from one on make the same list
 places-same : (f g : ℕ → Edge) (n i : ℕ) → ((j : ℕ) → i ≤ j → j < i + n → f j ≡ g j) → map f (countUp n i) ≡ map g (countUp n i)
@@ -107,6 +107,21 @@ missed-again {room} {r} {from} {i} m t = missed-then m (record { each = λ j h k
   where
     one : (j : ℕ) → i ≤ j → j < i + 1 → misses (edgeIn room j) r ≡ true
     one j h k = let same : i ≡ j = omega arith in subst (λ (n : ℕ). misses (edgeIn room n) r ≡ true) same t
+
+-- The loop of `first_met`: where the first call ended
+pub near-begin : {room : List ℕ} {r : Rectangle} {from to place : ℕ} → NearFirst room r from to place → NearFirst room r place to place
+near-begin {room} {r} {place = place} n = record { least = omega arith; missed = missed-none room r place; near = n .near }
+
+-- past an edge that misses, to where the next call ended
+pub near-again : {room : List ℕ} {r : Rectangle} {from to i place : ℕ} → NearFirst room r from to i → misses (edgeIn room i) r ≡ true
+    → NearFirst room r (i + 1) to place → NearFirst room r from to place
+near-again n t next =
+    record { least = omega (arith, n .least, next .least); missed = missed-then (missed-again (n .missed) t) (next .missed); near = next .near }
+
+-- and the place where it ends is that of the first that meets
+pub near-met : {room : List ℕ} {r : Rectangle} {from to first place : ℕ} → NearFirst room r from to first → NearFirst room r first to place
+    → (place < to → misses (edgeIn room place) r ≡ false) → MetFirst room r from to place
+near-met n m met = record { least = omega (arith, n .least, m .least); missed = missed-then (n .missed) (m .missed); met = met }
 
 -- Edges that miss a rectangle need not be kept for it
 keeps-passed : {es : List Edge} {room : List ℕ} {r : Rectangle} (to n i : ℕ) → MissedTo room r i (i + n) → Keeps es r (keptIn room i to)
@@ -191,16 +206,18 @@ pub record Moved (lent room : List ℕ) (r : Rectangle) (from to end i : ℕ) : 
   pub all : keptIn room to end ++ meeting r (keptIn room i to) ≡ meeting r (keptIn lent from to)
   pub first : to ≤ end
   pub few : end + from ≤ to + i
+  pub last : i ≤ to
   pub same : Same to lent room
   pub long : length room ≡ length lent
 
 -- At first none is moved
-pub moved-begin : (lent : List ℕ) (r : Rectangle) (from to : ℕ) → Moved lent lent r from to to from
-moved-begin lent r from to =
+pub moved-begin : (lent : List ℕ) (r : Rectangle) (from to : ℕ) → from ≤ to → Moved lent lent r from to to from
+moved-begin lent r from to h =
     record {
       all = ap (λ (es : List Edge). es ++ meeting r (keptIn lent from to)) (kept-none lent to to (omega arith));
       first = omega arith;
       few = omega arith;
+      last = h;
       same = λ j k. refl;
       long = refl;
     }
@@ -220,7 +237,7 @@ module _ {lent room : List ℕ} {r : Rectangle} {from to end i : ℕ} (m : Moved
   -- An edge that misses is left out
   pub moved-missed : i < to → misses (edgeIn room i) r ≡ true → Moved lent room r from to end (i + 1)
   moved-missed h t =
-      record { all = moved-next h t; first = m .first; few = omega (arith, m .few); same = m .same; long = m .long }
+      record { all = moved-next h t; first = m .first; few = omega (arith, m .few); last = omega arith; same = m .same; long = m .long }
 
   -- Any other is put behind the others
   pub moved-added : {e : Edge} → i < to → end < length room / 4 → misses (edgeIn room i) r ≡ false → e ≡ edgeIn room i
@@ -232,6 +249,7 @@ module _ {lent room : List ℕ} {r : Rectangle} {from to end i : ℕ} (m : Moved
             ∙ append-assoc (keptIn room to end) (edgeIn room i ∷ []) (meeting r (keptIn room (i + 1) to)) ∙ moved-next h t;
         first = omega (arith, m .first);
         few = omega (arith, m .few);
+        last = omega arith;
         same = λ j l. edge-before room end e k j (omega (arith, m .first)) ∙ m .same j l;
         long = with-length room end e ∙ m .long;
       }

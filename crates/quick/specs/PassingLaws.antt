@@ -1,21 +1,20 @@
 -- The laws of the test for passing over (document 01, "What the work covers"): a half with less of the extents in it than the narrowest wanted
 -- cell holds none, nor does one that no edge meets and whose centre is not inside. Assumes nothing.
-use Prim.Native.Nat.{ℕ, _-_, _≤_, _<_, min, max}
+use Prim.Native.Nat.{ℕ, _≤_}
 use native.Mathlib.Omega.{arith}
-use mathlib.Core.Path.{_≡_, refl, ap, ap₂, sym, _∙_}
+use mathlib.Core.Path.{_≡_, ap, sym, _∙_}
 use mathlib.Core.Logic.{_⊎_, inl, inr}
-use mathlib.Core.Bool.{Bool, true, false, not, _&&_, _||_, false≢true, true≢false}
+use mathlib.Core.Bool.{Bool, true, false, not, _&&_, false≢true, true≢false}
 use mathlib.Core.List.{List}
 use lib.Dec.{ltb}
 use borrow.Author.Tests.{ltb-true}
 use Rattle.facts.specs.Tests.{both, either}
 use Rattle.ground.specs.declared.Point.{Point}
 use Rattle.ground.specs.declared.Rectangle.{Rectangle}
-use Rattle.ground.specs.declared.Cell.{Cell}
-use Rattle.ground.specs.Levels.{IsLevel}
-use Rattle.ground.specs.Rectangles.{Within, Lies, Wide, centreOf}
+use Rattle.ground.specs.Levels.{finestLevel}
+use Rattle.ground.specs.Rectangles.{Within, Lies, centreOf}
 use Rattle.ground.specs.RectanglesLaws.{centre-lies, lies-within}
-use Rattle.ground.specs.Cells.{sidesOf, IsCell}
+use Rattle.ground.specs.Cells.{sidesOf}
 use Rattle.ground.specs.CellsLaws.{cell-wide}
 use Rattle.ground.specs.Halves.{narrowest}
 use Rattle.ground.specs.HalvesLaws.{narrow-wide, narrow-finer}
@@ -28,7 +27,7 @@ use Rattle.chosen.specs.InExtents.{in-extents}
 use Rattle.quick.specs.Half.{common, tooLittle, outside, HoldsNone}
 
 -- Ground with less of the extents in it than the narrowest wanted cell holds none
-pub little-none : {es : List Edge} {r : Rectangle} → Over r es → {finest : ℕ} → IsLevel finest → (g : Rectangle)
+pub little-none : {es : List Edge} {r : Rectangle} → Over r es → {finest : ℕ} → finest ≤ finestLevel → (g : Rectangle)
     → tooLittle g r (narrowest finest) ≡ true → HoldsNone es finest g
 unfolding sidesOf
 little-none {es} {r} o {finest} l g t d is most in-d w =
@@ -40,7 +39,7 @@ little-none {es} {r} o {finest} l g t d is most in-d w =
     x = in-extents o d is in-d
 
     least : narrowest finest ≤ narrowest (d .level)
-    least = narrow-finer (d .level) finest (is .level .coarsest) most (l .finest)
+    least = narrow-finer (d .level) finest (is .level .coarsest) most l
 
     by : (ltb (common (g .south .0) (g .north .0) (r .south .0) (r .north .0)) (narrowest finest) ≡ true)
         ⊎ (ltb (common (g .west .0) (g .east .0) (r .west .0) (r .east .0)) (narrowest finest) ≡ true) → ⊥

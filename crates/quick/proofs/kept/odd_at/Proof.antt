@@ -1,43 +1,44 @@
+-- `quick::kept::odd_at` meets its contract: the count so far, with the turns of the edges from place i on. Assumes nothing.
+use Prim.Native.Nat.{_-_}
+use mathlib.Core.Path.{refl}
+use borrow.Author.Needs.{needs}
+use Rattle.facts.specs.Tests.{differ}
+use Rattle.edge.specs.Edge.{turns}
+use Rattle.boundary.specs.Closed.{oddly}
+use Rattle.quick.specs.Half.{keptIn}
+use Rattle.quick.specs.HalfLaws.{OddFrom, odd-again, odd-end}
 use Rattle.quick.proofs.kept.odd_at.Statement.{statement}
 use Rattle.quick.proofs.kept.odd_at.Tie as tie
-use Rattle.quick.proofs.kept.odd_at.Reads as reads
-use Rattle.quick.proofs.kept.odd_at.Lts as lts
-use Rattle.edge.proofs.turns.Reads as turns-reads
-use Rattle.quick.proofs.kept.edge_at.Reads as edge-at-reads
 
 abbrev Inv-loop : tie.InvT-loop
-Inv-loop room q p east to odd₀ i₀ odd i = ?
+Inv-loop room q p east to odd₀ i₀ odd i =
+    OddFrom room (turns east p q) (differ odd₀ (oddly (turns east p q) (keptIn room i₀ to))) to odd i
 
 abbrev μ-loop : tie.MeasureT-loop
-μ-loop room q p east to odd₀ i₀ odd i = ?
+μ-loop room q p east to odd₀ i₀ odd i = to - i
 
--- src/kept.rt:95:5
 loop-holds : tie.Need-loop-holds Inv-loop μ-loop
-loop-holds c = ?
+loop-holds c = record { rest = refl }
 
--- src/kept.rt:96:13
 edge-at-requires : tie.Need-edge-at-requires Inv-loop μ-loop
-edge-at-requires c κs = ?
+edge-at-requires c κs = search needs
 
--- src/kept.rt:97:22
 turns-requires : tie.Need-turns-requires Inv-loop μ-loop
-turns-requires c κs = ?
+turns-requires c κs = search needs
 
--- src/kept.rt:98:9
 add-i : tie.Need-add-i Inv-loop μ-loop
-add-i c = ?
+add-i c = search needs
 
--- src/kept.rt:95:5
 loop-less : tie.Need-loop-less Inv-loop μ-loop
-loop-less c = ?
+loop-less c = search needs
 
--- src/kept.rt:95:5
 loop-again : tie.Need-loop-again Inv-loop μ-loop
-loop-again c = ?
+loop-again c =
+    let at = c .before .before in
+    odd-again (at .before .loop .inv) (at .loop-test .taken) (c .turns .ensures) (c .before .edge-at .ensures)
 
--- src/kept.rt:86:1
 returns : tie.Need-returns Inv-loop μ-loop
-returns c = ?
+returns c = odd-end (c .before .loop .inv) (c .loop-test .left)
 
 pub odd-at-spec : {M : Type 1} → statement M
 odd-at-spec =

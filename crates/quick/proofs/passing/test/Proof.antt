@@ -1,44 +1,82 @@
+-- `quick::passing::test` meets its contract: by each of its answers. Assumes nothing.
+use mathlib.Core.Path.{_≡_, refl, sym, ap, subst, _∙_}
+use mathlib.Core.Bool.{true, false≢true}
+use Rattle.ground.specs.Rectangles.{Lies}
+use Rattle.ground.specs.RectanglesLaws.{corner-lies}
+use Rattle.boundary.specs.Boundary.{pointInside, unmet}
+use Rattle.boundary.specs.Listed.{boundaryOf}
+use Rattle.boundary.specs.InsideLaws.{point-ground}
+use Rattle.quick.specs.Half.{tooLittle}
+use Rattle.quick.specs.HalfLaws.{met-unmet, past-unmet, odd-inside}
+use Rattle.quick.specs.PassingLaws.{little-none, even-none, met-outside, inside-outside}
 use borrow.Author.Needs.{needs}
 use Rattle.quick.proofs.passing.test.Statement.{statement}
 use Rattle.quick.proofs.passing.test.Tie as tie
-use Rattle.quick.proofs.passing.test.Reads as reads
-use Rattle.quick.proofs.passing.test.Lts as lts
-use Rattle.ground.proofs.south_west.Reads as south-west-reads
-use Rattle.quick.proofs.kept.first_met.Reads as first-met-reads
-use Rattle.quick.proofs.kept.odd_at.Reads as odd-at-reads
-use Rattle.quick.proofs.passing.too_little.Reads as too-little-reads
 
--- src/passing.rt:57:8
 too-little-requires : tie.Need-too-little-requires
 too-little-requires c κs = search needs
 
--- src/passing.rt:58:9
 returns : tie.Need-returns
-returns c = ?
+returns c =
+    let start = c .before .before .before .before .before in
+    let a = start .args in
+    let seeks = start .pre .1 in
+    let little = ap (tooLittle (a .half .ground) (a .sought .extents)) (sym (seeks .least)) ∙ sym (c .before .too-little .ensures) ∙ c .if1 .taken in
+    (λ _. refl, (λ _. little-none (seeks .over) (seeks .most) (a .half .ground) little, tt))
 
--- src/passing.rt:60:9
 first-met-requires : tie.Need-first-met-requires
 first-met-requires c κs = search needs
 
--- src/passing.rt:62:9
 returns-2 : tie.Need-returns-2
-returns-2 c = ?
+returns-2 c =
+    let start = c .before .before .before .before .before .before .before .before in
+    let a = start .args in
+    let first = c .before .before .first-met .ensures in
+    let met = met-unmet (start .pre .0) first (c .if2 .taken) in
+    (λ o. absurd (met-outside (boundaryOf (a .numbers .now)) (a .half .ground) met o), (λ f. absurd (false≢true f), (c .if2 .taken, first)))
 
--- src/passing.rt:64:27
 south-west-requires : tie.Need-south-west-requires
 south-west-requires c κs = search needs
 
--- src/passing.rt:64:8
 odd-at-requires : tie.Need-odd-at-requires
 odd-at-requires c κs = search needs
 
--- src/passing.rt:65:9
-returns-3 : tie.Need-returns-3
-returns-3 c = ?
+-- no edge meets the half
+free : (c : tie.Else2)
+    → unmet (c .before .before .before .before .before .before .before .before .args .half .ground)
+    (boundaryOf (c .before .before .before .before .before .before .before .before .args .numbers .now))
+    ≡ true
+free c =
+    past-unmet (c .before .before .before .before .before .before .before .before .pre .0) (c .before .before .first-met .ensures) (c .if2 .left)
 
--- src/passing.rt:49:1
+-- its corner lies in it
+lies : (c : tie.After-south-west)
+    → Lies (c .before .before .before .before .before .before .before .before .before .args .half .ground) (c .south-west .result)
+lies c =
+    let start = c .before .before .before .before .before .before .before .before .before in
+    subst (Lies (start .args .half .ground)) (sym (c .south-west .ensures)) (corner-lies (start .pre .0 .wide))
+
+-- and the count there is known
+count : (c : tie.After-odd-at)
+    → pointInside (c .before .south-west .result) (boundaryOf (c .before .before .before .before .before .before .before .before .before .before .args .numbers .now))
+    ≡ c .odd-at .result
+count c =
+    let start = c .before .before .before .before .before .before .before .before .before .before in
+    sym (c .odd-at .ensures ∙ odd-inside (start .pre .0) (lies (c .before)))
+
+returns-3 : tie.Need-returns-3
+returns-3 c =
+    let start = c .before .before .before .before .before .before .before .before .before .before .before in
+    let a = start .args in
+    let is = point-ground (start .pre .0 .closed) (free (c .before .before .before)) (lies (c .before .before)) ∙ count (c .before) ∙ c .if3 .taken in
+    (λ o. absurd (inside-outside (boundaryOf (a .numbers .now)) (a .half .ground) is o), (λ f. absurd (false≢true f), is))
+
 returns-4 : tie.Need-returns-4
-returns-4 c = ?
+returns-4 c =
+    let start = c .before .before .before .before .before .before .before .before .before .before .before in (
+      λ _. refl,
+      (λ _. even-none (start .pre .0 .closed) (free (c .before .before .before)) (lies (c .before .before)) (count (c .before) ∙ c .if3 .left), tt),
+    )
 
 pub test-spec : {M : Type 1} → statement M
 test-spec =
