@@ -5,7 +5,7 @@ ghost use Rattle.ground.specs.Cells.{isCell};
 ghost use Rattle.boundary.specs.Boundary.{unmet as Boundary·unmet, pointInside, inside as Boundary·inside};
 ghost use Rattle.boundary.specs.Listed.{edgesIn};
 use corners::corner;
-use edge::crosses_east;
+use crossing::crosses_east;
 use edge::misses;
 use ground::Cell;
 use ground::Point;

@@ -9,7 +9,8 @@ use borrow.Author.Tests.{eq-eqb}
 use Rattle.ground.specs.declared.Point.{Point}
 use Rattle.ground.specs.declared.Rectangle.{Rectangle}
 use Rattle.ground.specs.declared.Cell.{Cell}
-use Rattle.ground.specs.Levels.{distance, lat, lon, finestLevel, smallestSize, sizeOf}
+use Rattle.angles.specs.Angles.{distance}
+use Rattle.ground.specs.Levels.{lat, lon, finestLevel, smallestSize, sizeOf}
 use Rattle.ground.specs.Cells.{sidesOf, locationCell, cornerOf}
 use Rattle.ground.specs.Rectangles.{centreOf}
 use Rattle.code.specs.declared.Fields.{Fields}

@@ -1,7 +1,8 @@
 // The fields of a unit: the reference of its cell, its scale and its spans.
 ghost use mathlib.Core.Path.{_≡_};
 ghost use Prim.Native.Nat.{_≤_};
-ghost use Rattle.ground.specs.Levels.{distance, smallestSize};
+ghost use Rattle.angles.specs.Angles.{distance};
+ghost use Rattle.ground.specs.Levels.{smallestSize};
 ghost use Rattle.ground.specs.Cells.{sidesOf, locationCell, cornerOf};
 ghost use Rattle.unit.specs.Unit.{spanCells, fieldsOf};
 use crate::scale::scale_of;
@@ -19,7 +20,7 @@ fn span_cells(s: u32, from: u32, to: u32) -> u32
     requires { ⌜ smallestSize ≤ s ⌝ }
     ensures { λ r. ⌜ r ≡ spanCells s (distance from to) ⌝ }
 {
-    let d = ground::apart(from, to);
+    let d = angles::apart(from, to);
     ((d as u64 + (s as u64 - 1)) / s as u64 + 1) as u32
 }
 
@@ -38,8 +39,8 @@ fn reference(c: Cell, sides: Rectangle) -> Point
     }
     let p = ground::centre(sides);
     Point {
-        lat: Lat(ground::less(p.lat.0, SMALLEST)),
-        lon: Lon(ground::less(p.lon.0, SMALLEST)),
+        lat: Lat(angles::less(p.lat.0, SMALLEST)),
+        lon: Lon(angles::less(p.lon.0, SMALLEST)),
     }
 }
 

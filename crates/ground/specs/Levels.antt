@@ -31,10 +31,6 @@ latEnd = 90 * degree
 abbrev pub lonEnd : ℕ
 lonEnd = 180 * degree
 
--- The distance of two angles of one direction
-abbrev pub distance : ℕ → ℕ → ℕ
-distance a b = (a - b) + (b - a)
-
 -- Levels 9 to 27
 abbrev pub coarsestLevel : ℕ
 coarsestLevel = 9

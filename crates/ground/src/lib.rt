@@ -11,17 +11,10 @@ pub use halves::lat_split;
 pub use halves::lon_split;
 pub use halves::narrowest;
 pub use rectangles::centre;
-pub use rectangles::east_of;
-pub use rectangles::greater;
-pub use rectangles::lesser;
-pub use rectangles::north_of;
-pub use rectangles::south_of;
 pub use rectangles::south_west;
-pub use rectangles::west_of;
 pub use rectangles::widened;
 ghost use mathlib.Core.Path.{_≡_};
-ghost use Prim.Native.Nat.{_-_};
-ghost use Rattle.ground.specs.Levels.{sizeOf, distance};
+ghost use Rattle.ground.specs.Levels.{sizeOf};
 
 // A degree in u.
 pub const DEGREE: u32 = 7372800;
@@ -72,20 +65,6 @@ pub struct Cell {
     pub level: u32,
     pub west: Lon,
     pub south: Lat,
-}
-
-// The distance of two angles of one direction.
-pub fn apart(a: u32, b: u32) -> u32
-    ensures { λ r. ⌜ r ≡ distance a b ⌝ }
-{
-    if a < b { b - a } else { a - b }
-}
-
-// A number less another, and 0 where that is greater.
-pub fn less(a: u32, b: u32) -> u32
-    ensures { λ r. ⌜ r ≡ a - b ⌝ }
-{
-    if a < b { 0 } else { a - b }
 }
 
 // The nominal sizes of levels 9 to 27, in u (annex D of TD/T 1082-2023's draft).

@@ -1,22 +1,20 @@
-// Rectangles of ground: a corner, the centre, the parts on both sides of a line, and the rectangle
-// widened to hold a point.
+// Rectangles of ground: a corner, the centre, and the rectangle widened to hold a point.
 ghost use mathlib.Core.Path.{_≡_};
-ghost use Prim.Native.Nat.{min, max};
-ghost use Rattle.ground.specs.Rectangles.{southWest, halfway as Rectangles·halfway, centreOf, southOf, northOf, westOf, eastOf, widened as Rectangles·widened};
+ghost use Rattle.ground.specs.Rectangles.{southWest, halfway as Rectangles·halfway, centreOf, widened as Rectangles·widened};
 use crate::Lat;
 use crate::Lon;
 use crate::Point;
 use crate::Rectangle;
+use angles::greater;
+use angles::lesser;
 
 // The south-west corner of a rectangle.
 pub fn south_west(r: Rectangle) -> Point
     ensures { λ p. ⌜ p ≡ southWest r ⌝ }
 {
-    let west = r.west;
-    let south = r.south;
     Point {
-        lat: south,
-        lon: west,
+        lat: r.south,
+        lon: r.west,
     }
 }
 
@@ -35,48 +33,6 @@ pub fn centre(r: Rectangle) -> Point
         lat: Lat(halfway(r.south.0, r.north.0)),
         lon: Lon(halfway(r.west.0, r.east.0)),
     }
-}
-
-// The part of a rectangle south of a latitude.
-pub fn south_of(r: Rectangle, at: Lat) -> Rectangle
-    ensures { λ p. ⌜ p ≡ southOf r at ⌝ }
-{
-    Rectangle { north: at, ..r }
-}
-
-// The part north of it.
-pub fn north_of(r: Rectangle, at: Lat) -> Rectangle
-    ensures { λ p. ⌜ p ≡ northOf r at ⌝ }
-{
-    Rectangle { south: at, ..r }
-}
-
-// The part west of a longitude.
-pub fn west_of(r: Rectangle, at: Lon) -> Rectangle
-    ensures { λ p. ⌜ p ≡ westOf r at ⌝ }
-{
-    Rectangle { east: at, ..r }
-}
-
-// The part east of it.
-pub fn east_of(r: Rectangle, at: Lon) -> Rectangle
-    ensures { λ p. ⌜ p ≡ eastOf r at ⌝ }
-{
-    Rectangle { west: at, ..r }
-}
-
-// The lesser of two angles of one direction.
-pub fn lesser(a: u32, b: u32) -> u32
-    ensures { λ r. ⌜ r ≡ min a b ⌝ }
-{
-    if a < b { a } else { b }
-}
-
-// The greater of two.
-pub fn greater(a: u32, b: u32) -> u32
-    ensures { λ r. ⌜ r ≡ max a b ⌝ }
-{
-    if a < b { b } else { a }
 }
 
 // A rectangle widened to hold a point.

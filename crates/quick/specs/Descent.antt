@@ -7,7 +7,8 @@ use lib.Dec.{ltb}
 use Rattle.ground.specs.declared.Lon.{Lon}
 use Rattle.ground.specs.declared.Rectangle.{Rectangle}
 use Rattle.ground.specs.declared.Cell.{Cell}
-use Rattle.ground.specs.Levels.{lat, lon, latEnd, lonEnd, distance, coarsestLevel, finestLevel}
+use Rattle.angles.specs.Angles.{distance}
+use Rattle.ground.specs.Levels.{lat, lon, latEnd, lonEnd, coarsestLevel, finestLevel}
 use Rattle.ground.specs.Cells.{IsCell}
 use Rattle.ground.specs.Halves.{Span, Ground, narrowest}
 use Rattle.edge.specs.Edge.{Edge}

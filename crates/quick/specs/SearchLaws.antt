@@ -15,7 +15,8 @@ use Rattle.facts.specs.Lists.{each-so}
 use Rattle.ground.specs.declared.Lon.{Lon}
 use Rattle.ground.specs.declared.Rectangle.{Rectangle}
 use Rattle.ground.specs.declared.Cell.{Cell}
-use Rattle.ground.specs.Levels.{lat, lon, latEnd, lonEnd, distance, coarsestLevel, finestLevel, IsLevel}
+use Rattle.angles.specs.Angles.{distance}
+use Rattle.ground.specs.Levels.{lat, lon, latEnd, lonEnd, coarsestLevel, finestLevel, IsLevel}
 use Rattle.ground.specs.Rectangles.{Within, at}
 use Rattle.ground.specs.Cells.{lowSide, highSide, sidesOf, IsCell}
 use Rattle.ground.specs.CellsLaws.{low-below-high, cell-wide}

@@ -8,65 +8,61 @@ use ground::Lat;
 use ground::Lon;
 use ground::Rectangle;
 
-// A part of a half.
-fn part_of(half: Half, part: Rectangle) -> Half
-    ensures { λ h. ⌜ h ≡ partOf half part ⌝ }
-{
-    let corner = half.corner;
-    let east = half.east;
-    Half {
-        ground: part,
-        corner,
-        odd: half.odd,
-        east,
-        from: half.from,
-        first: half.first,
-        to: half.to,
-    }
-}
-
 // A half whose edges before a place miss it.
 pub(crate) fn starting_at(half: Half, first: usize) -> Half
     ensures { λ h. ⌜ h ≡ startingAt half first ⌝ }
 {
-    let ground = half.ground;
-    let corner = half.corner;
-    let east = half.east;
-    Half {
-        ground,
-        corner,
-        odd: half.odd,
-        east,
-        from: half.from,
-        first,
-        to: half.to,
-    }
+    Half { first, ..half }
 }
 
 // The south half.
 pub(crate) fn south_half(half: Half, at: Lat) -> Half
     ensures { λ h. ⌜ h ≡ partOf half (southOf (half .ground) at) ⌝ }
 {
-    part_of(half, ground::south_of(half.ground, at))
+    Half {
+        ground: Rectangle {
+            north: at,
+            ..half.ground
+        },
+        ..half
+    }
 }
 
 // The north half.
 pub(crate) fn north_half(half: Half, at: Lat) -> Half
     ensures { λ h. ⌜ h ≡ partOf half (northOf (half .ground) at) ⌝ }
 {
-    part_of(half, ground::north_of(half.ground, at))
+    Half {
+        ground: Rectangle {
+            south: at,
+            ..half.ground
+        },
+        ..half
+    }
 }
 
 // The west half.
 pub(crate) fn west_half(half: Half, at: Lon) -> Half
     ensures { λ h. ⌜ h ≡ partOf half (westOf (half .ground) at) ⌝ }
 {
-    part_of(half, ground::west_of(half.ground, at))
+    Half {
+        ground: Rectangle {
+            east: at,
+            ..half.ground
+        },
+        ..half
+    }
 }
 
 // The east half.
 pub(crate) fn east_half(half: Half, at: Lon) -> Half
     ensures { λ h. ⌜ h ≡ partOf half (eastOf (half .ground) at) ⌝ }
 {
-    part_of(half, ground::east_of(half.ground, at))
+    Half {
+        ground: Rectangle {
+            west: at,
+            ..half.ground
+        },
+        ..half
+    }
 }

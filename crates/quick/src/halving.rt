@@ -26,7 +26,7 @@ use ground::Lon;
 pub(crate) fn settled(found: Choice, west: Lon, level: u32, sought: Sought) -> bool
     ensures { λ s. ⌜ s ≡ settledAt found west (max level (sought .coarsest)) (sought .finest) ⌝ }
 {
-    let least = ground::greater(level, sought.coarsest);
+    let least = angles::greater(level, sought.coarsest);
     let Choice::At(c) = found else {
         return sought.finest < least;
     };

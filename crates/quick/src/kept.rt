@@ -94,7 +94,7 @@ pub(crate) fn odd_at(room: &[u32], half: Half, q: Point) -> bool
     let mut i = half.from;
     while i < to {
         let e = edge_at(room, i);
-        odd = odd != edge::turns(p, q, east, e.a, e.b);
+        odd = odd != crossing::turns(p, q, east, e.a, e.b);
         i += 1;
     }
     odd

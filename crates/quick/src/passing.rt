@@ -22,8 +22,8 @@ pub enum Tested {
 fn common(low: u32, high: u32, from: u32, to: u32) -> u32
     ensures { λ n. ⌜ n ≡ Half·common low high from to ⌝ }
 {
-    let start = ground::greater(low, from);
-    let end = ground::lesser(high, to);
+    let start = angles::greater(low, from);
+    let end = angles::lesser(high, to);
     if start < end { end - start } else { 0 }
 }
 

@@ -32,7 +32,7 @@ fn too_wide(r: Rectangle, level: u32) -> bool
     let south = r.south;
     let north = r.north;
     let least = ground::narrowest(level);
-    ground::apart(west.0, east.0) < least || ground::apart(south.0, north.0) < least
+    angles::apart(west.0, east.0) < least || angles::apart(south.0, north.0) < least
 }
 
 // The coarsest level whose cells can fit the extents, or the one after the finest.
@@ -60,7 +60,7 @@ fn short(r: Rectangle, level: u32, cells: u32) -> bool
     let south = r.south;
     let north = r.north;
     let size = ground::size(level);
-    size < ground::apart(west.0, east.0) / cells || size < ground::apart(south.0, north.0) / cells
+    size < angles::apart(west.0, east.0) / cells || size < angles::apart(south.0, north.0) / cells
 }
 
 // A level to start halving from: the finest, up to the one that is searched, of which three cells in a row

@@ -8,7 +8,7 @@ use mathlib.Core.Bool.{Bool, true, false, cond, not, Bool·beq}
 use lib.Dec.{leb, ltb}
 use borrow.Author.Tests.{leb-true, leb-false, ltb-true, ltb-false}
 use Rattle.ground.specs.declared.Point.{Point}
-use Rattle.ground.specs.Levels.{distance}
+use Rattle.angles.specs.Angles.{distance}
 use Rattle.side.specs.declared.Signed.{Signed}
 use Rattle.side.specs.Side.{leftSum, rightSum, left, leftOrOn}
 

@@ -18,7 +18,7 @@ fn product(a: u32, b: u32, c: u32, d: u32) -> Signed
 {
     Signed {
         below: (a < b) != (c < d),
-        size: ground::apart(a, b) as u64 * ground::apart(c, d) as u64,
+        size: angles::apart(a, b) as u64 * angles::apart(c, d) as u64,
     }
 }
 

@@ -14,7 +14,8 @@ use Rattle.facts.specs.Tests.{true-of, neither}
 use Rattle.ground.specs.declared.Point.{Point}
 use Rattle.ground.specs.declared.Rectangle.{Rectangle}
 use Rattle.ground.specs.declared.Cell.{Cell}
-use Rattle.ground.specs.Levels.{distance, latEnd, lonEnd, sizeOf}
+use Rattle.angles.specs.Angles.{distance}
+use Rattle.ground.specs.Levels.{latEnd, lonEnd, sizeOf}
 use Rattle.ground.specs.Cells.{IsCell, locationCell, cornerOf}
 use Rattle.ground.specs.CellsLaws.{Reference}
 use Rattle.code.specs.declared.Fields.{Fields}

@@ -8,7 +8,8 @@ use mathlib.Core.Bool.{true}
 use mathlib.Core.List.{List}
 use Rattle.ground.specs.declared.Rectangle.{Rectangle}
 use Rattle.ground.specs.declared.Cell.{Cell}
-use Rattle.ground.specs.Levels.{distance, sizeOf}
+use Rattle.angles.specs.Angles.{distance}
+use Rattle.ground.specs.Levels.{sizeOf}
 use Rattle.ground.specs.Cells.{sidesOf, IsCell, locationCell, cornerOf}
 use Rattle.ground.specs.CellsLaws.{Reference, located}
 use Rattle.code.specs.declared.Fields.{Fields}

@@ -11,7 +11,8 @@ use Rattle.facts.specs.Places.{firstPlace}
 use Rattle.ground.specs.declared.Point.{Point}
 use Rattle.ground.specs.declared.Rectangle.{Rectangle}
 use Rattle.ground.specs.declared.Cell.{Cell}
-use Rattle.ground.specs.Levels.{degree, latEnd, lonEnd, distance, coarsestLevel, finestLevel, sizeOf}
+use Rattle.angles.specs.Angles.{distance}
+use Rattle.ground.specs.Levels.{degree, latEnd, lonEnd, coarsestLevel, finestLevel, sizeOf}
 use Rattle.ground.specs.Cells.{locationCell, cornerOf}
 use Rattle.code.specs.declared.Fields.{Fields}
 use Rattle.code.specs.Code.{outside, codeOf}

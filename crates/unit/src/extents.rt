@@ -44,14 +44,14 @@ pub fn extremes(numbers: &[u32]) -> Rectangle
 fn lat_extent(r: Rectangle) -> u32
     ensures { λ e. ⌜ e ≡ latExtent r ⌝ }
 {
-    ground::less(r.north.0, r.south.0)
+    angles::less(r.north.0, r.south.0)
 }
 
 // The extent in longitude.
 fn lon_extent(r: Rectangle) -> u32
     ensures { λ e. ⌜ e ≡ lonExtent r ⌝ }
 {
-    ground::less(r.east.0, r.west.0)
+    angles::less(r.east.0, r.west.0)
 }
 
 // The larger of the two extents.

@@ -2,7 +2,7 @@
 use mathlib.Core.Path.{ap₂}
 use lib.Dec.{ltb}
 use borrow.Author.Tests.{lt-ltb, le-ltb}
-use Rattle.ground.specs.Levels.{distance}
+use Rattle.angles.specs.Angles.{distance}
 use Rattle.ground.specs.Halves.{narrowest}
 use Rattle.quick.specs.SearchLaws.{or-first, or-second}
 use borrow.Author.Needs.{needs}

@@ -1,8 +1,8 @@
--- `edge::between` meets its contract: the latitudes decide where the corner is at or beyond the east side. Assumes nothing.
+-- `crossing::between` meets its contract: the latitudes decide where the corner is at or beyond the east side. Assumes nothing.
 use mathlib.Core.Path.{sym, _∙_}
 use borrow.Author.Needs.{needs}
-use Rattle.edge.proofs.between.Statement.{statement}
-use Rattle.edge.proofs.between.Tie as tie
+use Rattle.crossing.proofs.between.Statement.{statement}
+use Rattle.crossing.proofs.between.Tie as tie
 
 past-east-requires : tie.Need-past-east-requires
 past-east-requires c κs = search needs

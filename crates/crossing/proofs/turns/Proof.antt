@@ -1,14 +1,14 @@
--- `edge::turns` meets its contract: the two crossings and the two ends, each counted as odd or even; where neither latitude is between
+-- `crossing::turns` meets its contract: the two crossings and the two ends, each counted as odd or even; where neither latitude is between
 -- the ends, nothing is crossed, and the ends are parted both alike. Assumes nothing.
 use mathlib.Core.Path.{_≡_, ap, ap₂, sym, _∙_}
 use mathlib.Core.Bool.{Bool, not, _&&_, Bool·beq}
 use lib.Dec.{leb}
 use Rattle.facts.specs.Tests.{differ, unlike}
 use Rattle.edge.specs.Edge.{edge, turns}
 use Rattle.edge.specs.CrossesLaws.{turns-parted}
 use borrow.Author.Needs.{needs}
-use Rattle.edge.proofs.turns.Statement.{statement}
-use Rattle.edge.proofs.turns.Tie as tie
+use Rattle.crossing.proofs.turns.Statement.{statement}
+use Rattle.crossing.proofs.turns.Tie as tie
 
 straddles-requires : tie.Need-straddles-requires
 straddles-requires c κs = search needs

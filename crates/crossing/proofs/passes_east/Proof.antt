@@ -1,8 +1,8 @@
--- `edge::passes_east` meets its contract: by which end is at or below the latitude. Assumes nothing.
+-- `crossing::passes_east` meets its contract: by which end is at or below the latitude. Assumes nothing.
 use borrow.Author.Tests.{le-leb, lt-leb}
 use borrow.Author.Needs.{needs}
-use Rattle.edge.proofs.passes_east.Statement.{statement}
-use Rattle.edge.proofs.passes_east.Tie as tie
+use Rattle.crossing.proofs.passes_east.Statement.{statement}
+use Rattle.crossing.proofs.passes_east.Tie as tie
 
 left-requires : tie.Need-left-requires
 left-requires c κs = search needs

@@ -1,8 +1,8 @@
--- `edge::parted` meets its contract: two tests that are not equal differ. Assumes nothing.
+-- `crossing::parted` meets its contract: two tests that are not equal differ. Assumes nothing.
 use Rattle.facts.specs.Tests.{unlike}
 use Rattle.edge.specs.Edge.{low}
-use Rattle.edge.proofs.parted.Statement.{statement}
-use Rattle.edge.proofs.parted.Tie as tie
+use Rattle.crossing.proofs.parted.Statement.{statement}
+use Rattle.crossing.proofs.parted.Tie as tie
 
 returns : tie.Need-returns
 returns c =

@@ -1,11 +1,11 @@
--- `edge::crosses_east` meets its contract: exactly one end is at or below, and the edge passes east. Assumes nothing.
+-- `crossing::crosses_east` meets its contract: exactly one end is at or below, and the edge passes east. Assumes nothing.
 use mathlib.Core.Path.{sym, ap₂, ap, _∙_}
 use mathlib.Core.Bool.{Bool, _&&_}
 use Rattle.edge.specs.CrossesLaws.{crosses-told, same-none}
 use Rattle.edge.specs.Edge.{edge}
 use borrow.Author.Needs.{needs}
-use Rattle.edge.proofs.crosses_east.Statement.{statement}
-use Rattle.edge.proofs.crosses_east.Tie as tie
+use Rattle.crossing.proofs.crosses_east.Statement.{statement}
+use Rattle.crossing.proofs.crosses_east.Tie as tie
 
 straddles-requires : tie.Need-straddles-requires
 straddles-requires c κs = search needs

@@ -1,8 +1,8 @@
--- `edge::straddles` meets its contract: two tests that are not equal differ. Assumes nothing.
+-- `crossing::straddles` meets its contract: two tests that are not equal differ. Assumes nothing.
 use Rattle.facts.specs.Tests.{unlike}
 use Rattle.edge.specs.Edge.{low}
-use Rattle.edge.proofs.straddles.Statement.{statement}
-use Rattle.edge.proofs.straddles.Tie as tie
+use Rattle.crossing.proofs.straddles.Statement.{statement}
+use Rattle.crossing.proofs.straddles.Tie as tie
 
 returns : tie.Need-returns
 returns c =
