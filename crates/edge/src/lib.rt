@@ -25,33 +25,23 @@ fn both_most(a: u32, b: u32, c: u32, d: u32) -> bool
 pub fn beyond(a: Point, b: Point, r: Rectangle) -> bool
     ensures { λ m. ⌜ m ≡ Edge·beyond (edge a b) r ⌝ }
 {
-    let a_lat = a.lat;
-    let a_lon = a.lon;
-    let b_lat = b.lat;
-    let b_lon = b.lon;
-    let west = r.west;
-    let east = r.east;
-    let south = r.south;
-    let north = r.north;
-    if both_most(a_lon.0, west.0, b_lon.0, west.0) {
+    if both_most(a.lon.0, r.west.0, b.lon.0, r.west.0) {
         return true;
     }
-    if both_most(east.0, a_lon.0, east.0, b_lon.0) {
+    if both_most(r.east.0, a.lon.0, r.east.0, b.lon.0) {
         return true;
     }
-    if both_most(a_lat.0, south.0, b_lat.0, south.0) {
+    if both_most(a.lat.0, r.south.0, b.lat.0, r.south.0) {
         return true;
     }
-    both_most(north.0, a_lat.0, north.0, b_lat.0)
+    both_most(r.north.0, a.lat.0, r.north.0, b.lat.0)
 }
 
 // The latitude of the corner that is furthest right of the line from a to b.
 fn extreme_lat(a: Point, b: Point, r: Rectangle) -> Lat
     ensures { λ m. ⌜ m ≡ extremeLat a b r ⌝ }
 {
-    let from = a.lon;
-    let to = b.lon;
-    if from.0 <= to.0 {
+    if a.lon.0 <= b.lon.0 {
         return r.south;
     }
     r.north
@@ -61,9 +51,7 @@ fn extreme_lat(a: Point, b: Point, r: Rectangle) -> Lat
 fn extreme_lon(a: Point, b: Point, r: Rectangle) -> Lon
     ensures { λ m. ⌜ m ≡ extremeLon a b r ⌝ }
 {
-    let from = a.lat;
-    let to = b.lat;
-    if from.0 <= to.0 {
+    if a.lat.0 <= b.lat.0 {
         return r.east;
     }
     r.west
@@ -89,31 +77,23 @@ fn ordered_left(a: Point, b: Point, r: Rectangle) -> bool
 fn each_left(a: Point, b: Point, r: Rectangle) -> bool
     ensures { λ m. ⌜ m ≡ allLeft a b r ⌝ }
 {
-    let west = r.west;
-    let east = r.east;
-    let south = r.south;
-    let north = r.north;
-    if right(a, b, south, west) {
+    if right(a, b, r.south, r.west) {
         return false;
     }
-    if right(a, b, south, east) {
+    if right(a, b, r.south, r.east) {
         return false;
     }
-    if right(a, b, north, west) {
+    if right(a, b, r.north, r.west) {
         return false;
     }
-    !right(a, b, north, east)
+    !right(a, b, r.north, r.east)
 }
 
 // Whether the corners of a rectangle lie all on one side of the line from a to b, or on it.
 pub fn aside(a: Point, b: Point, r: Rectangle) -> bool
     ensures { λ m. ⌜ m ≡ (allLeft a b r || allLeft b a r) ⌝ }
 {
-    let west = r.west;
-    let east = r.east;
-    let south = r.south;
-    let north = r.north;
-    if both_most(west.0, east.0, south.0, north.0) {
+    if both_most(r.west.0, r.east.0, r.south.0, r.north.0) {
         return ordered_left(a, b, r) || ordered_left(b, a, r);
     }
     each_left(a, b, r) || each_left(b, a, r)
@@ -130,19 +110,14 @@ pub fn misses(a: Point, b: Point, r: Rectangle) -> bool
 fn straddles(p: Point, a: Point, b: Point) -> bool
     ensures { λ m. ⌜ m ≡ differ (low a p) (low b p) ⌝ }
 {
-    let at = p.lat;
-    let a_lat = a.lat;
-    let b_lat = b.lat;
-    (a_lat.0 <= at.0) != (b_lat.0 <= at.0)
+    (a.lat.0 <= p.lat.0) != (b.lat.0 <= p.lat.0)
 }
 
 // Whether an edge passes east of a point, where it crosses the point's latitude.
 fn passes_east(p: Point, a: Point, b: Point) -> bool
     ensures { λ m. ⌜ m ≡ cond (low a p) (Side·left a b p) (Side·left b a p) ⌝ }
 {
-    let at = p.lat;
-    let a_lat = a.lat;
-    if a_lat.0 <= at.0 {
+    if a.lat.0 <= p.lat.0 {
         return left(a, b, p);
     }
     left(b, a, p)
@@ -160,11 +135,7 @@ pub fn crosses_east(p: Point, a: Point, b: Point) -> bool
 fn between(p: Point, q: Point, east: Lon, v: Point) -> bool
     ensures { λ m. ⌜ m ≡ Edge·between east p q v ⌝ }
 {
-    let at = v.lon;
-    let height = v.lat;
-    let p_lat = p.lat;
-    let q_lat = q.lat;
-    east.0 <= at.0 && (height.0 <= p_lat.0) != (height.0 <= q_lat.0)
+    east.0 <= v.lon.0 && (v.lat.0 <= p.lat.0) != (v.lat.0 <= q.lat.0)
 }
 
 // Whether an edge turns the count from odd to even, or back, between two points west of an east side.

@@ -35,16 +35,12 @@ fn split(level: u32, low: u32, high: u32) -> u32
 pub fn lat_split(level: u32, r: Rectangle) -> Lat
     ensures { λ at. ⌜ at ≡ latSplit level r ⌝ }
 {
-    let south = r.south;
-    let north = r.north;
-    Lat(split(level, south.0, north.0))
+    Lat(split(level, r.south.0, r.north.0))
 }
 
 // The longitude at which ground is halved into cells of a level; its east side where it is not.
 pub fn lon_split(level: u32, r: Rectangle) -> Lon
     ensures { λ at. ⌜ at ≡ lonSplit level r ⌝ }
 {
-    let west = r.west;
-    let east = r.east;
-    Lon(split(level, west.0, east.0))
+    Lon(split(level, r.west.0, r.east.0))
 }

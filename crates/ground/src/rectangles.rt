@@ -31,13 +31,9 @@ fn halfway(a: u32, b: u32) -> u32
 pub fn centre(r: Rectangle) -> Point
     ensures { λ p. ⌜ p ≡ centreOf r ⌝ }
 {
-    let west = r.west;
-    let east = r.east;
-    let south = r.south;
-    let north = r.north;
     Point {
-        lat: Lat(halfway(south.0, north.0)),
-        lon: Lon(halfway(west.0, east.0)),
+        lat: Lat(halfway(r.south.0, r.north.0)),
+        lon: Lon(halfway(r.west.0, r.east.0)),
     }
 }
 
@@ -119,16 +115,10 @@ pub fn greater(a: u32, b: u32) -> u32
 pub fn widened(r: Rectangle, p: Point) -> Rectangle
     ensures { λ w. ⌜ w ≡ Rectangles·widened r p ⌝ }
 {
-    let west = r.west;
-    let east = r.east;
-    let south = r.south;
-    let north = r.north;
-    let lat = p.lat;
-    let lon = p.lon;
     Rectangle {
-        west: Lon(lesser(west.0, lon.0)),
-        east: Lon(greater(east.0, lon.0)),
-        south: Lat(lesser(south.0, lat.0)),
-        north: Lat(greater(north.0, lat.0)),
+        west: Lon(lesser(r.west.0, p.lon.0)),
+        east: Lon(greater(r.east.0, p.lon.0)),
+        south: Lat(lesser(r.south.0, p.lat.0)),
+        north: Lat(greater(r.north.0, p.lat.0)),
     }
 }

@@ -41,14 +41,8 @@ fn greater(x: Signed, y: Signed) -> bool
 pub fn left(a: Point, b: Point, p: Point) -> bool
     ensures { λ r. ⌜ r ≡ Side·left a b p ⌝ }
 {
-    let a_lat = a.lat;
-    let a_lon = a.lon;
-    let b_lat = b.lat;
-    let b_lon = b.lon;
-    let p_lat = p.lat;
-    let p_lon = p.lon;
     greater(
-        product(a_lon.0, b_lon.0, a_lat.0, p_lat.0),
-        product(a_lat.0, b_lat.0, a_lon.0, p_lon.0),
+        product(a.lon.0, b.lon.0, a.lat.0, p.lat.0),
+        product(a.lat.0, b.lat.0, a.lon.0, p.lon.0),
     )
 }

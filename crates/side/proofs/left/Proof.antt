@@ -16,7 +16,7 @@ greater-requires c κs = search needs
 
 returns : tie.Need-returns
 returns c =
-    let a = c .before .before .before .before .before .before .before .before .before .args in
+    let a = c .before .before .before .args in
     let along = c .before .before .product in
     let across = c .before .product2 in
     c .greater .ensures

@@ -65,14 +65,14 @@ same-length c = search needs
 
 returns : tie.Need-returns
 returns c =
-    let a = c .before .before .before .before .before .args in
+    let a = c .before .args in
     put-four (a .room .now) (a .place) (a .a .lat .0) (a .a .lon .0) (a .b .lat .0) (a .b .lon .0)
     ∙ sym (ap (λ (b : Bool). cond b (sets (a .room .now) (4 * a .place) (numbersOf (edge (a .a) (a .b) ∷ []))) (a .room .now))
     (lt-ltb (a .place) (length (a .room .now) / 4) (c .if1 .taken)))
 
 returns-2 : tie.Need-returns-2
 returns-2 c =
-    let a = c .before .before .before .before .before .args in
+    let a = c .before .args in
     sym (ap (λ (b : Bool). cond b (sets (a .room .now) (4 * a .place) (numbersOf (edge (a .a) (a .b) ∷ []))) (a .room .now))
     (le-ltb (a .place) (length (a .room .now) / 4) (c .if1 .left)))
 
