@@ -14,10 +14,11 @@ pub fn put_edge(room: &mut [u32], place: usize, a: Point, b: Point)
     ensures { λ _. ⌜ now (room .exit) ≡ withEdge (now (room .entry)) place (edge a b) ⌝ }
 {
     if place < room.len() / 4 {
-        room[4 * place] = a.lat.0;
-        room[4 * place + 1] = a.lon.0;
-        room[4 * place + 2] = b.lat.0;
-        room[4 * place + 3] = b.lon.0;
+        let at = 4 * place;
+        room[at] = a.lat.0;
+        room[at + 1] = a.lon.0;
+        room[at + 2] = b.lat.0;
+        room[at + 3] = b.lon.0;
     }
 }
 
