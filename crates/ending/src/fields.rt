@@ -35,18 +35,20 @@ fn reference(c: Cell, sides: Rectangle) -> Point
     requires { ⌜ sides ≡ sidesOf c ⌝ }
     ensures { λ p. ⌜ p ≡ cornerOf (locationCell c) ⌝ }
 {
+    let west = c.west;
+    let south = c.south;
     if c.level == FINEST {
-        let west = c.west;
-        let south = c.south;
         return Point {
             lat: south,
             lon: west,
         };
     }
     let p = ground::centre(sides);
+    let lat = p.lat;
+    let lon = p.lon;
     Point {
-        lat: Lat(less(p.lat.0, SMALLEST)),
-        lon: Lon(less(p.lon.0, SMALLEST)),
+        lat: Lat(less(lat.0, SMALLEST)),
+        lon: Lon(less(lon.0, SMALLEST)),
     }
 }
 
@@ -56,15 +58,21 @@ pub(crate) fn fields(r: Rectangle, number: u32, c: Cell, sides: Rectangle) -> Fi
     ensures { λ f. ⌜ f ≡ fieldsOf r number c ⌝ }
 {
     let p = reference(c, sides);
+    let lat = p.lat;
+    let lon = p.lon;
+    let west = r.west;
+    let east = r.east;
+    let south = r.south;
+    let north = r.north;
     let level = scale_of(unit::span(r));
     let s = ground::size(level);
     Fields {
         reference: p,
         scale: level,
-        east: span_cells(s, p.lon.0, r.east.0),
-        west: span_cells(s, p.lon.0, r.west.0),
-        south: span_cells(s, p.lat.0, r.south.0),
-        north: span_cells(s, p.lat.0, r.north.0),
+        east: span_cells(s, lon.0, east.0),
+        west: span_cells(s, lon.0, west.0),
+        south: span_cells(s, lat.0, south.0),
+        north: span_cells(s, lat.0, north.0),
         number,
     }
 }

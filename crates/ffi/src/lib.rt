@@ -97,11 +97,15 @@ pub extern "C" fn linenspruce_code_plain(
 fn sides_in_numbers(r: ground::Rectangle) -> Rectangle
     ensures { λ s. ⌜ sides s ≡ r ⌝ }
 {
+    let west = r.west;
+    let east = r.east;
+    let south = r.south;
+    let north = r.north;
     Rectangle {
-        west: r.west.0,
-        east: r.east.0,
-        south: r.south.0,
-        north: r.north.0,
+        west: west.0,
+        east: east.0,
+        south: south.0,
+        north: north.0,
     }
 }
 
@@ -110,9 +114,11 @@ fn fields_in_numbers(f: code::Fields) -> Fields
     ensures { λ r. ⌜ fieldsOf r ≡ f ⌝ }
 {
     let p = f.reference;
+    let lat = p.lat;
+    let lon = p.lon;
     Fields {
-        lat: p.lat.0,
-        lon: p.lon.0,
+        lat: lat.0,
+        lon: lon.0,
         scale: f.scale,
         east: f.east,
         west: f.west,

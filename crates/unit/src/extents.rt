@@ -52,14 +52,18 @@ fn less(a: u32, b: u32) -> u32
 fn lat_extent(r: Rectangle) -> u32
     ensures { λ e. ⌜ e ≡ latExtent r ⌝ }
 {
-    less(r.north.0, r.south.0)
+    let south = r.south;
+    let north = r.north;
+    less(north.0, south.0)
 }
 
 // The extent in longitude.
 fn lon_extent(r: Rectangle) -> u32
     ensures { λ e. ⌜ e ≡ lonExtent r ⌝ }
 {
-    less(r.east.0, r.west.0)
+    let west = r.west;
+    let east = r.east;
+    less(east.0, west.0)
 }
 
 // The larger of the two extents.

@@ -40,7 +40,7 @@ returns c =
     let c2 = c3 .before in
     let c1 = c2 .before in
     let cs = c1 .before in
-    let p = cs .before .before .before in
+    let p = cs .before .before .before .before .before .before .before .before .before in
     let a = p .before .args in
     fields-made (a .r) (a .number) (a .c) (p .reference .ensures) (cs .before .before .span .ensures) (cs .before .scale-of .ensures)
     (cs .size .ensures) (c1 .span-cells .ensures) (c2 .span-cells2 .ensures) (c3 .span-cells3 .ensures) (c .span-cells4 .ensures)

@@ -11,7 +11,7 @@ use Rattle.ending.proofs.fields.reference.Statement.{statement}
 use Rattle.ending.proofs.fields.reference.Tie as tie
 
 returns : tie.Need-returns
-returns c = reference-finest (c .before .before .before .before .args .c) (c .before .before .if1 .taken)
+returns c = reference-finest (c .before .before .before .before .args .c) (c .if1 .taken)
 
 centre-requires : tie.Need-centre-requires
 centre-requires c κs = search needs
@@ -24,12 +24,12 @@ less-requires-2 c κs = search needs
 
 returns-2 : tie.Need-returns-2
 returns-2 c =
-    let ce = c .before .before in
-    let a = ce .before .before .before .args in
+    let ce = c .before .before .before .before in
+    let a = ce .before .before .before .before .before .args in
     let at : ℕ → ℕ → Point = λ x y. record { lat = lat x; lon = lon y } in
     ap₂ at (c .before .less .ensures) (c .less2 .ensures)
     ∙ reference-centre (a .c) (ne-eqb (a .c .level) finestLevel (ce .before .if1 .left))
-    (ce .centre .ensures ∙ ap centreOf (ce .before .before .before .pre))
+    (ce .centre .ensures ∙ ap centreOf (ce .before .before .before .before .before .pre))
 
 pub reference-spec : {M : Type 1} → statement M
 reference-spec =
