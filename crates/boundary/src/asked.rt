@@ -13,7 +13,7 @@ use ground::Rectangle;
 use ground::Sides;
 
 // Whether no edge of a list meets a rectangle.
-pub fn unmet(edges: &[u32], r: Rectangle) -> bool
+fn unmet(edges: &[u32], r: Rectangle) -> bool
     ensures { λ m. ⌜ m ≡ Boundary·unmet r (edgesIn (now (edges .entry))) ⌝ }
 {
     let count = edges.len() / 4;

@@ -6,6 +6,5 @@ mod walk;
 
 pub use asked::inside;
 pub use asked::odd_count;
-pub use asked::unmet;
 pub use walk::list_edges;
 pub use walk::put_edge;

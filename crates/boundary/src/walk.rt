@@ -13,15 +13,12 @@ use ground::Point;
 pub fn put_edge(room: &mut [u32], place: usize, a: Point, b: Point)
     ensures { λ _. ⌜ now (room .exit) ≡ withEdge (now (room .entry)) place (edge a b) ⌝ }
 {
-    let a_lat = a.lat;
-    let a_lon = a.lon;
-    let b_lat = b.lat;
-    let b_lon = b.lon;
     if place < room.len() / 4 {
-        room[4 * place] = a_lat.0;
-        room[4 * place + 1] = a_lon.0;
-        room[4 * place + 2] = b_lat.0;
-        room[4 * place + 3] = b_lon.0;
+        let at = 4 * place;
+        room[at] = a.lat.0;
+        room[at + 1] = a.lon.0;
+        room[at + 2] = b.lat.0;
+        room[at + 3] = b.lon.0;
     }
 }
 
@@ -29,11 +26,7 @@ pub fn put_edge(room: &mut [u32], place: usize, a: Point, b: Point)
 fn one_point(a: Point, b: Point) -> bool
     ensures { λ r. ⌜ r ≡ noLength (edge a b) ⌝ }
 {
-    let a_lat = a.lat;
-    let a_lon = a.lon;
-    let b_lat = b.lat;
-    let b_lon = b.lon;
-    a_lat.0 == b_lat.0 && a_lon.0 == b_lon.0
+    a.lat.0 == b.lat.0 && a.lon.0 == b.lon.0
 }
 
 // The place after a place of so many: after the last comes the first.

@@ -14,19 +14,14 @@ use side::left;
 fn straddles(p: Point, a: Point, b: Point) -> bool
     ensures { λ m. ⌜ m ≡ differ (low a p) (low b p) ⌝ }
 {
-    let at = p.lat;
-    let a_lat = a.lat;
-    let b_lat = b.lat;
-    (a_lat.0 <= at.0) != (b_lat.0 <= at.0)
+    (a.lat.0 <= p.lat.0) != (b.lat.0 <= p.lat.0)
 }
 
 // Whether an edge passes east of a point, where it crosses the point's latitude.
 fn passes_east(p: Point, a: Point, b: Point) -> bool
     ensures { λ m. ⌜ m ≡ cond (low a p) (Side·left a b p) (Side·left b a p) ⌝ }
 {
-    let at = p.lat;
-    let a_lat = a.lat;
-    if a_lat.0 <= at.0 {
+    if a.lat.0 <= p.lat.0 {
         return left(a, b, p);
     }
     left(b, a, p)
@@ -44,18 +39,14 @@ pub fn crosses_east(p: Point, a: Point, b: Point) -> bool
 fn parted(p: Point, q: Point, v: Point) -> bool
     ensures { λ m. ⌜ m ≡ differ (low v p) (low v q) ⌝ }
 {
-    let height = v.lat;
-    let p_lat = p.lat;
-    let q_lat = q.lat;
-    (height.0 <= p_lat.0) != (height.0 <= q_lat.0)
+    (v.lat.0 <= p.lat.0) != (v.lat.0 <= q.lat.0)
 }
 
 // Whether a corner is at or beyond an east side.
 fn past_east(east: Lon, v: Point) -> bool
     ensures { λ m. ⌜ m ≡ leb (east .0) (v .lon .0) ⌝ }
 {
-    let at = v.lon;
-    east.0 <= at.0
+    east.0 <= v.lon.0
 }
 
 // Whether a corner at or beyond an east side is at or below the latitude of one of two points alone.

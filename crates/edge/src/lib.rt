@@ -89,20 +89,16 @@ fn ordered_left(a: Point, b: Point, r: Rectangle) -> bool
 fn each_left(a: Point, b: Point, r: Rectangle) -> bool
     ensures { λ m. ⌜ m ≡ allLeft a b r ⌝ }
 {
-    let west = r.west;
-    let east = r.east;
-    let south = r.south;
-    let north = r.north;
-    if right(a, b, south, west) {
+    if right(a, b, r.south, r.west) {
         return false;
     }
-    if right(a, b, south, east) {
+    if right(a, b, r.south, r.east) {
         return false;
     }
-    if right(a, b, north, west) {
+    if right(a, b, r.north, r.west) {
         return false;
     }
-    !right(a, b, north, east)
+    !right(a, b, r.north, r.east)
 }
 
 // Whether the corners of a rectangle lie all on one side of the line from a to b, or on it.
@@ -133,11 +129,7 @@ fn strictly_within(p: Point, r: Rectangle) -> bool
 fn has_length(a: Point, b: Point) -> bool
     ensures { λ m. ⌜ m ≡ not (noLength (edge a b)) ⌝ }
 {
-    let a_lat = a.lat;
-    let a_lon = a.lon;
-    let b_lat = b.lat;
-    let b_lon = b.lon;
-    a_lat.0 != b_lat.0 || a_lon.0 != b_lon.0
+    a.lat.0 != b.lat.0 || a.lon.0 != b.lon.0
 }
 
 // Whether an edge that has a length has an end strictly within a rectangle.

@@ -12,9 +12,11 @@ use angles::lesser;
 pub fn south_west(r: Rectangle) -> Point
     ensures { λ p. ⌜ p ≡ southWest r ⌝ }
 {
+    let west = r.west;
+    let south = r.south;
     Point {
-        lat: r.south,
-        lon: r.west,
+        lat: south,
+        lon: west,
     }
 }
 

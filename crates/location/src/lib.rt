@@ -61,9 +61,7 @@ fn unpair(n: u32, x: u64) -> u32
 pub fn location_of(p: Point) -> u64
     ensures { λ r. ⌜ r ≡ locationOf p ⌝ }
 {
-    let lat = p.lat;
-    let lon = p.lon;
-    pair(27, bits_of(lat.0), bits_of(lon.0)) * 2 + 1
+    pair(27, bits_of(p.lat.0), bits_of(p.lon.0)) * 2 + 1
 }
 
 // The latitude's 27 bits of a location's 55.

@@ -49,12 +49,10 @@ pub fn rectangle_of(f: Fields) -> Rectangle
     ensures { λ r. ⌜ r ≡ rectangleOf f ⌝ }
 {
     let p = f.reference;
-    let lat = p.lat;
-    let lon = p.lon;
     Rectangle {
-        west: Lon(back(lon.0, span_distance(f.west, f.scale))),
-        east: Lon(ahead(lon.0, span_distance(f.east, f.scale), ground::LON_END)),
-        south: Lat(back(lat.0, span_distance(f.south, f.scale))),
-        north: Lat(ahead(lat.0, span_distance(f.north, f.scale), ground::LAT_END)),
+        west: Lon(back(p.lon.0, span_distance(f.west, f.scale))),
+        east: Lon(ahead(p.lon.0, span_distance(f.east, f.scale), ground::LON_END)),
+        south: Lat(back(p.lat.0, span_distance(f.south, f.scale))),
+        north: Lat(ahead(p.lat.0, span_distance(f.north, f.scale), ground::LAT_END)),
     }
 }

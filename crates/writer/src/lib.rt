@@ -18,9 +18,7 @@ fn no_reference(angle: u32, end: u32) -> bool
 fn no_point(p: Point) -> bool
     ensures { λ r. ⌜ r ≡ noPoint p ⌝ }
 {
-    let lat = p.lat;
-    let lon = p.lon;
-    no_reference(lat.0, ground::LAT_END) || no_reference(lon.0, ground::LON_END)
+    no_reference(p.lat.0, ground::LAT_END) || no_reference(p.lon.0, ground::LON_END)
 }
 
 // Whether one of the spans is none that a code can have.

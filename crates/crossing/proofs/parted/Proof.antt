@@ -6,7 +6,7 @@ use Rattle.crossing.proofs.parted.Tie as tie
 
 returns : tie.Need-returns
 returns c =
-    let a = c .before .before .before .before .before .before .before .args in
+    let a = c .before .before .before .before .args in
     unlike (low (a .v) (a .p)) (low (a .v) (a .q))
 
 pub parted-spec : {M : Type 1} → statement M

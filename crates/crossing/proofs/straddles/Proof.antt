@@ -6,7 +6,7 @@ use Rattle.crossing.proofs.straddles.Tie as tie
 
 returns : tie.Need-returns
 returns c =
-    let a = c .before .before .before .before .before .before .before .args in
+    let a = c .before .before .before .before .args in
     unlike (low (a .a) (a .p)) (low (a .b) (a .p))
 
 pub straddles-spec : {M : Type 1} → statement M

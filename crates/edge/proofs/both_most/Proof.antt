@@ -4,10 +4,10 @@ use Rattle.edge.proofs.both_most.Statement.{statement}
 use Rattle.edge.proofs.both_most.Tie as tie
 
 returns : tie.Need-returns
-returns c = rw (le-leb _ _ (c .if1 .taken))
+returns c = let a = c .before .args in rw (le-leb (a .a) (a .b) (c .if1 .taken))
 
 returns-2 : tie.Need-returns-2
-returns-2 c = rw (lt-leb _ _ (c .if1 .left))
+returns-2 c = let a = c .before .args in rw (lt-leb (a .a) (a .b) (c .if1 .left))
 
 pub both-most-spec : {M : Type 1} → statement M
 both-most-spec = tie.close (tie.spec returns returns-2)

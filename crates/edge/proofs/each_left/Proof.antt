@@ -10,7 +10,7 @@ right-requires c κs = search needs
 
 returns : tie.Need-returns
 returns c =
-    let a = c .before .before .before .before .before .before .args in
+    let a = c .before .before .args in
     let r = a .r in
     rw (
     told-left (a .a) (a .b) (record { lat = r .south; lon = r .west }) (c .before .right .ensures) (c .if1 .taken))
@@ -20,7 +20,7 @@ right-requires-2 c κs = search needs
 
 returns-2 : tie.Need-returns-2
 returns-2 c =
-    let a = c .before .before .before .before .before .before .before .before .args in
+    let a = c .before .before .before .before .args in
     let r = a .r in
     rw (
       told-left (a .a) (a .b) (record { lat = r .south; lon = r .west }) (c .before .before .before .right .ensures) (c .before .before .if1 .left),
@@ -32,7 +32,7 @@ right-requires-3 c κs = search needs
 
 returns-3 : tie.Need-returns-3
 returns-3 c =
-    let a = c .before .before .before .before .before .before .before .before .before .before .args in
+    let a = c .before .before .before .before .before .before .args in
     let r = a .r in
     rw (
       told-left (a .a) (a .b) (record { lat = r .south; lon = r .west }) (c .before .before .before .before .before .right .ensures) (c .before .before .before .before .if1 .left),
@@ -45,7 +45,7 @@ right-requires-4 c κs = search needs
 
 returns-4 : tie.Need-returns-4
 returns-4 c =
-    let a = c .before .before .before .before .before .before .before .before .before .before .before .args in
+    let a = c .before .before .before .before .before .before .before .args in
     let r = a .r in
     rw (
       c .right4 .ensures,

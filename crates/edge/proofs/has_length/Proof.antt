@@ -6,12 +6,12 @@ use Rattle.edge.proofs.has_length.Tie as tie
 
 returns : tie.Need-returns
 returns c =
-    let a = c .before .before .before .before .before .before .before .args in
+    let a = c .before .before .before .args in
     rw (ne-eqb (a .a .lat .0) (a .b .lat .0) (λ e. omega (arith, c .if1 .taken)))
 
 returns-2 : tie.Need-returns-2
 returns-2 c =
-    let a = c .before .before .before .before .before .before .before .before .before .args in
+    let a = c .before .before .before .before .before .args in
     rw (eq-eqb (a .a .lat .0) (a .b .lat .0) (omega (arith, c .before .before .if1 .left)))
 
 pub has-length-spec : {M : Type 1} → statement M

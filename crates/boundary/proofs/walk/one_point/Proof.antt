@@ -6,10 +6,14 @@ use Rattle.boundary.proofs.walk.one_point.Statement.{statement}
 use Rattle.boundary.proofs.walk.one_point.Tie as tie
 
 returns : tie.Need-returns
-returns c = rw (eq-eqb _ _ (c .before .before .if1 .taken))
+returns c =
+    let a = c .before .before .before .before .before .args in
+    rw (eq-eqb (a .a .lat .0) (a .b .lat .0) (c .before .before .if1 .taken))
 
 returns-2 : tie.Need-returns-2
-returns-2 c = rw (ne-eqb _ _ (c .if1 .left))
+returns-2 c =
+    let a = c .before .before .before .args in
+    rw (ne-eqb (a .a .lat .0) (a .b .lat .0) (c .if1 .left))
 
 pub one-point-spec : {M : Type 1} → statement M
 one-point-spec = tie.close (tie.spec returns returns-2)

@@ -7,11 +7,11 @@ use Rattle.ground.proofs.cells.afresh.Tie as tie
 
 returns : tie.Need-returns
 unfolding afresh
-returns c = (rw (le-leb _ _ (c .if1 .taken)), omega arith)
+returns c = (rw (le-leb (c .before .args .level) 15 (c .if1 .taken)), omega arith)
 
 returns-2 : tie.Need-returns-2
 unfolding afresh
-returns-2 c = (rw (lt-leb _ _ (c .if1 .left)), omega arith)
+returns-2 c = (rw (lt-leb (c .before .args .level) 15 (c .if1 .left)), omega arith)
 
 pub afresh-spec : {M : Type 1} → statement M
 afresh-spec = tie.close (tie.spec returns returns-2)
