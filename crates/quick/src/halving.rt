@@ -53,7 +53,6 @@ pub(crate) fn by_lat(
     let ground = half.ground;
     let west = ground.west;
     let south = ground.south;
-    let north = ground.north;
     let level = sought.finest - left / 2;
     if settled(found, west, level, sought) {
         return found;
@@ -70,7 +69,7 @@ pub(crate) fn by_lat(
     }
     let own = sorted(numbers, room, half, place, left);
     let at = ground::lat_split(level + 1, own.ground);
-    if at.0 == north.0 {
+    if at.0 == own.ground.north.0 {
         return by_lon(numbers, room, own, sought, left - 1, found);
     }
     let first = by_lon(numbers, room, south_half(own, at), sought, left - 1, found);
@@ -93,7 +92,6 @@ fn by_lon(
     let ground = half.ground;
     let west = ground.west;
     let south = ground.south;
-    let east = ground.east;
     let level = sought.finest - left / 2;
     if settled(found, west, level, sought) {
         return found;
@@ -106,8 +104,8 @@ fn by_lon(
         return found;
     };
     let own = starting_at(half, place);
-    let at = ground::lon_split(level, ground);
-    if at.0 == east.0 {
+    let at = ground::lon_split(level, own.ground);
+    if at.0 == own.ground.east.0 {
         return by_lat(numbers, room, own, sought, left - 1, found);
     }
     let first = by_lat(numbers, room, west_half(own, at), sought, left - 1, found);

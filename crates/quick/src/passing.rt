@@ -31,16 +31,8 @@ fn common(low: u32, high: u32, from: u32, to: u32) -> u32
 fn too_little(g: Rectangle, r: Rectangle, least: u32) -> bool
     ensures { λ t. ⌜ t ≡ tooLittle g r least ⌝ }
 {
-    let g_west = g.west;
-    let g_east = g.east;
-    let g_south = g.south;
-    let g_north = g.north;
-    let west = r.west;
-    let east = r.east;
-    let south = r.south;
-    let north = r.north;
-    common(g_south.0, g_north.0, south.0, north.0) < least
-        || common(g_west.0, g_east.0, west.0, east.0) < least
+    common(g.south.0, g.north.0, r.south.0, r.north.0) < least
+        || common(g.west.0, g.east.0, r.west.0, r.east.0) < least
 }
 
 // The test for passing over, of a half and what is sought. It says yes for every half that no edge meets

@@ -27,12 +27,8 @@ use ground::Rectangle;
 fn too_wide(r: Rectangle, level: u32) -> bool
     ensures { λ u. ⌜ u ≡ tooWide r level ⌝ }
 {
-    let west = r.west;
-    let east = r.east;
-    let south = r.south;
-    let north = r.north;
     let least = ground::narrowest(level);
-    angles::apart(west.0, east.0) < least || angles::apart(south.0, north.0) < least
+    angles::apart(r.west.0, r.east.0) < least || angles::apart(r.south.0, r.north.0) < least
 }
 
 // The coarsest level whose cells can fit the extents, or the one after the finest.
@@ -55,12 +51,9 @@ fn first_level(r: Rectangle) -> u32
 fn short(r: Rectangle, level: u32, cells: u32) -> bool
     requires { ⌜ 0 < cells ⌝ }
 {
-    let west = r.west;
-    let east = r.east;
-    let south = r.south;
-    let north = r.north;
     let size = ground::size(level);
-    size < angles::apart(west.0, east.0) / cells || size < angles::apart(south.0, north.0) / cells
+    size < angles::apart(r.west.0, r.east.0) / cells
+        || size < angles::apart(r.south.0, r.north.0) / cells
 }
 
 // A level to start halving from: the finest, up to the one that is searched, of which three cells in a row

@@ -14,7 +14,6 @@ use borrow.Fn.Kinds.{In}
 use borrow.Fn.PlainCycle.{Measures, is, falls, and}
 use Rattle.ground.specs.declared.Rectangle.{Rectangle}
 use Rattle.ground.specs.Rectangles.{southOf, northOf, westOf, eastOf}
-use Rattle.ground.specs.Halves.{lonSplit}
 use Rattle.edge.specs.Edge.{Edge}
 use Rattle.boundary.specs.Boundary.{unmet}
 use Rattle.boundary.specs.Listed.{boundaryOf}
@@ -126,7 +125,7 @@ same-as room later e s = subst (λ (x : Half). Same (x .to) room later) e s
 module _ (t : ℕ) where
   -- From where the test is asked back to the start
   abbrev lat-start : by-lat-lts.Else1 (lat-calls t) (by-lat-at t) by-lat.Post → by-lat-lts.Start (lat-calls t) (by-lat-at t) by-lat.Post
-  lat-start c = c .before .before .before .before .before .before .before .before .before
+  lat-start c = c .before .before .before .before .before .before .before .before
 
   -- from where an edge meets the half to where the test is asked, from two parts to the half, and from the second part to the first
   abbrev lat-asked : by-lat-lts.After-known-told (lat-calls t) (by-lat-at t) by-lat.Post → by-lat-lts.Else1 (lat-calls t) (by-lat-at t) by-lat.Post
@@ -166,11 +165,6 @@ module _ (t : ℕ) where
       let s = lat-start (lat-asked (lat-some c .before)) in
       subst (λ (g : Rectangle). unmet g (boundaryOf (s .args .numbers .now)) ≡ false) (sym (c .sorted .ensures .0 .0)) (lat-unmet (lat-some c .before))
 
-  -- Both parts are asked only where the half is split
-  lat-split : (c : by-lat-lts.Else3 (lat-calls t) (by-lat-at t) by-lat.Post)
-      → c .before .before .before .lat-split .result .0 ≡ lat-sorted (c .before) .sorted .result .ground .north .0 → ⊥
-  lat-split c e = c .if3 .left (e ∙ ap (λ g. g .north .0) (lat-sorted (c .before) .sorted .ensures .0 .0))
-
   -- What is found in the south half
   lat-first : (c : by-lat-lts.After-by-lon2 (lat-calls t) (by-lat-at t) by-lat.Post)
       → let both = lat-both c in let own = lat-sorted (both .before) in let s = lat-start (lat-asked (lat-some own .before)) in
@@ -184,14 +178,14 @@ module _ (t : ℕ) where
       same-as (lat-sorted (lat-both c .before) .sorted .last .1 .0) (c .by-lon2 .last .1 .0) (c .before .south-half .ensures) (c .by-lon2 .ensures .1)
 
   by-lat-sub-level : by-lat-lts.Need-sub-level (lat-calls t) (by-lat-at t) by-lat.Post
-  by-lat-sub-level c = omega (arith, c .before .before .before .before .before .before .before .pre .1 .coarsest)
+  by-lat-sub-level c = omega (arith, c .before .before .before .before .before .before .pre .1 .coarsest)
 
   by-lat-settled-requires : by-lat-lts.Need-settled-requires (lat-calls t) (by-lat-at t) by-lat.Post
   by-lat-settled-requires c κs = search needs
 
   by-lat-returns : by-lat-lts.Need-returns (lat-calls t) (by-lat-at t) by-lat.Post
   by-lat-returns c =
-      let b = c .before .before .before .before .before .before .before .before .before .pre .1 in
+      let b = c .before .before .before .before .before .before .before .before .pre .1 in
       (settled-first (b .seeks) (b .past) (sym (c .before .settled .ensures) ∙ c .if1 .taken), λ j h. refl)
 
   by-lat-test-requires : by-lat-lts.Need-test-requires (lat-calls t) (by-lat-at t) by-lat.Post
@@ -246,7 +240,7 @@ module _ (t : ℕ) where
       let own = lat-sorted (whole .before) in
       let some = lat-some own .if2 .left in (
         omega (arith, lat-start (lat-asked (lat-some own .before)) .pre .0, some),
-        lat-whole (lat-owned own) some (whole .before .before .before .lat-split .ensures) (whole .if3 .taken ∙ sym (ap (λ g. g .north .0) (own .sorted .ensures .0 .0))),
+        lat-whole (lat-owned own) some (whole .before .before .before .lat-split .ensures) (whole .if3 .taken),
       )
 
   by-lat-same-length-4 : by-lat-lts.Need-same-length-4 (lat-calls t) (by-lat-at t) by-lat.Post
@@ -277,7 +271,7 @@ module _ (t : ℕ) where
       let s = lat-start (lat-asked (lat-some own .before)) in (
         omega (arith, s .pre .0, some),
         subst (λ (h : Half). ByLon (boundaryOf (s .args .numbers .now)) (own .sorted .last .1 .0) h (s .args .sought) (s .args .left - 1) (s .args .found))
-            (sym (c .south-half .ensures)) (lat-south (lat-owned own) some (both .before .before .before .lat-split .ensures) (lat-split both)),
+            (sym (c .south-half .ensures)) (lat-south (lat-owned own) some (both .before .before .before .lat-split .ensures) (both .if3 .left)),
       )
 
   by-lat-north-half-requires : by-lat-lts.Need-north-half-requires (lat-calls t) (by-lat-at t) by-lat.Post
@@ -296,7 +290,7 @@ module _ (t : ℕ) where
         omega (arith, s .pre .0, some),
         subst (λ (h : Half). ByLon (boundaryOf (s .args .numbers .now)) (first .by-lon2 .last .1 .0) h (s .args .sought) (s .args .left - 1) (first .by-lon2 .result))
             (sym (c .north-half .ensures))
-            (lat-north (lat-owned own) some (both .before .before .before .lat-split .ensures) (lat-split both)
+            (lat-north (lat-owned own) some (both .before .before .before .lat-split .ensures) (both .if3 .left)
             (sound-same (own .sorted .ensures .0 .1) (lat-kept first) (search needs)) (first .by-lon2 .result) (lat-first first)),
       )
 
@@ -320,7 +314,7 @@ module _ (t : ℕ) where
       let own = lat-sorted (both .before) in
       let s = lat-start (lat-asked (lat-some own .before)) in
       let kept = sound-same {later = first .by-lon2 .last .1 .0} (own .sorted .ensures .0 .1) (lat-kept first) (search needs) in
-      let answer = lat-joined (lat-owned own) (lat-some own .if2 .left) (both .before .before .before .lat-split .ensures) (lat-split both)
+      let answer = lat-joined (lat-owned own) (lat-some own .if2 .left) (both .before .before .before .lat-split .ensures) (both .if3 .left)
       kept (first .by-lon2 .result) (lat-first first) (call .by-lon3 .result) (lat-owned-unmet own) (first-as (north .north-half .ensures) (call .by-lon3 .ensures .0)) in
       let last = same-as (first .by-lon2 .last .1 .0) (call .by-lon3 .last .1 .0) (north .north-half .ensures) (call .by-lon3 .ensures .1) in (
         subst (λ (g : Rectangle). First (boundaryOf (s .args .numbers .now)) (s .args .sought .finest - s .args .left / 2) (s .args .sought .finest) g (s .args .found) (call .by-lon3 .result))
@@ -330,7 +324,7 @@ module _ (t : ℕ) where
 
   -- The same by longitude
   abbrev lon-start : by-lon-lts.Else1 (lon-calls t) (by-lon-at t) by-lon.Post → by-lon-lts.Start (lon-calls t) (by-lon-at t) by-lon.Post
-  lon-start c = c .before .before .before .before .before .before .before .before .before
+  lon-start c = c .before .before .before .before .before .before .before .before
 
   abbrev lon-asked : by-lon-lts.After-known-told (lon-calls t) (by-lon-at t) by-lon.Post → by-lon-lts.Else1 (lon-calls t) (by-lon-at t) by-lon.Post
   lon-asked c = c .before .before .before .before .before .before
@@ -359,19 +353,6 @@ module _ (t : ℕ) where
       lon-own b (ap (λ h. h .ground) (c .starting-at .ensures))
       (subst (Sound (boundaryOf (s .args .numbers .now)) (s .args .room .now)) (sym (c .starting-at .ensures)) (sound-starting (b .sound) (lon-met (c .before))))
 
-  -- Where it is split, by its own ground
-  lon-at : (c : by-lon-lts.After-struct-known3 (lon-calls t) (by-lon-at t) by-lon.Post)
-      → let own = lon-begun c in let s = lon-start (lon-asked (own .before)) in
-      c .before .before .lon-split .result ≡ lonSplit (s .args .sought .finest - s .args .left / 2) (own .starting-at .result .ground)
-  lon-at c =
-      let own = lon-begun c in
-      let s = lon-start (lon-asked (own .before)) in
-      c .before .before .lon-split .ensures ∙ sym (ap (λ h. lonSplit (s .args .sought .finest - s .args .left / 2) (h .ground)) (own .starting-at .ensures))
-
-  lon-split : (c : by-lon-lts.Else2 (lon-calls t) (by-lon-at t) by-lon.Post)
-      → c .before .before .before .lon-split .result .0 ≡ lon-begun (c .before) .starting-at .result .ground .east .0 → ⊥
-  lon-split c e = c .if2 .left (e ∙ ap (λ h. h .ground .east .0) (lon-begun (c .before) .starting-at .ensures))
-
   -- What is found in the west half
   lon-first : (c : by-lon-lts.After-by-lat2 (lon-calls t) (by-lon-at t) by-lon.Post)
       → let both = lon-both c in let own = lon-begun (both .before) in let s = lon-start (lon-asked (own .before)) in
@@ -387,14 +368,14 @@ module _ (t : ℕ) where
       same-as (s .args .room .now) (c .by-lat2 .last .1 .0) (c .before .west-half .ensures) (c .by-lat2 .ensures .1)
 
   by-lon-sub-level : by-lon-lts.Need-sub-level (lon-calls t) (by-lon-at t) by-lon.Post
-  by-lon-sub-level c = omega (arith, c .before .before .before .before .before .before .before .pre .1 .coarsest)
+  by-lon-sub-level c = omega (arith, c .before .before .before .before .before .before .pre .1 .coarsest)
 
   by-lon-settled-requires : by-lon-lts.Need-settled-requires (lon-calls t) (by-lon-at t) by-lon.Post
   by-lon-settled-requires c κs = search needs
 
   by-lon-returns : by-lon-lts.Need-returns (lon-calls t) (by-lon-at t) by-lon.Post
   by-lon-returns c =
-      let b = c .before .before .before .before .before .before .before .before .before .pre .1 in
+      let b = c .before .before .before .before .before .before .before .before .pre .1 in
       (settled-first (b .seeks) (b .past) (sym (c .before .settled .ensures) ∙ c .if1 .taken), λ j h. refl)
 
   by-lon-test-requires : by-lon-lts.Need-test-requires (lon-calls t) (by-lon-at t) by-lon.Post
@@ -440,7 +421,7 @@ module _ (t : ℕ) where
       let own = lon-begun (whole .before) in
       let s = lon-start (lon-asked (own .before)) in (
         omega (arith, s .pre .0, s .pre .1 .odd),
-        lon-whole (lon-owned own) (lon-at (whole .before)) (whole .if2 .taken ∙ sym (ap (λ h. h .ground .east .0) (own .starting-at .ensures))),
+        lon-whole (lon-owned own) (whole .before .before .before .lon-split .ensures) (whole .if2 .taken),
       )
 
   by-lon-same-length-3 : by-lon-lts.Need-same-length-3 (lon-calls t) (by-lon-at t) by-lon.Post
@@ -452,7 +433,7 @@ module _ (t : ℕ) where
       let whole = call .before .before in
       let own = lon-begun (whole .before) in
       let s = lon-start (lon-asked (own .before)) in (
-        first-as (own .starting-at .ensures) (lon-same (lon-owned own) (lon-at (whole .before)) (call .by-lat .result) (call .by-lat .ensures .0)),
+        first-as (own .starting-at .ensures) (lon-same (lon-owned own) (whole .before .before .before .lon-split .ensures) (call .by-lat .result) (call .by-lat .ensures .0)),
         same-as (s .args .room .now) (call .by-lat .last .1 .0) (own .starting-at .ensures) (call .by-lat .ensures .1),
       )
 
@@ -469,7 +450,7 @@ module _ (t : ℕ) where
       let s = lon-start (lon-asked (own .before)) in (
         omega (arith, s .pre .0, s .pre .1 .odd),
         subst (λ (h : Half). ByLat (boundaryOf (s .args .numbers .now)) (s .args .room .now) h (s .args .sought) (s .args .left - 1) (s .args .found))
-            (sym (c .west-half .ensures)) (lon-west (lon-owned own) (lon-at (both .before)) (lon-split both)),
+            (sym (c .west-half .ensures)) (lon-west (lon-owned own) (both .before .before .before .lon-split .ensures) (both .if2 .left)),
       )
 
   by-lon-east-half-requires : by-lon-lts.Need-east-half-requires (lon-calls t) (by-lon-at t) by-lon.Post
@@ -487,7 +468,7 @@ module _ (t : ℕ) where
         omega (arith, s .pre .0, s .pre .1 .odd),
         subst (λ (h : Half). ByLat (boundaryOf (s .args .numbers .now)) (first .by-lat2 .last .1 .0) h (s .args .sought) (s .args .left - 1) (first .by-lat2 .result))
             (sym (c .east-half .ensures))
-            (lon-east (lon-owned own) (lon-at (both .before)) (lon-split both) (sound-same (lon-owned own .sound) (lon-kept first) (search needs))
+            (lon-east (lon-owned own) (both .before .before .before .lon-split .ensures) (both .if2 .left) (sound-same (lon-owned own .sound) (lon-kept first) (search needs))
             (first .by-lat2 .result) (lon-first first)),
       )
 
@@ -503,7 +484,7 @@ module _ (t : ℕ) where
       let own = lon-begun (both .before) in
       let s = lon-start (lon-asked (own .before)) in
       let kept = sound-same {later = first .by-lat2 .last .1 .0} (lon-owned own .sound) (lon-kept first) (search needs) in
-      let answer = lon-joined (lon-owned own) (lon-at (both .before)) (lon-split both) kept (first .by-lat2 .result) (lon-first first)
+      let answer = lon-joined (lon-owned own) (both .before .before .before .lon-split .ensures) (both .if2 .left) kept (first .by-lat2 .result) (lon-first first)
       (call .by-lat3 .result) (first-as (east .east-half .ensures) (call .by-lat3 .ensures .0)) in
       let last = same-as (first .by-lat2 .last .1 .0) (call .by-lat3 .last .1 .0) (east .east-half .ensures) (call .by-lat3 .ensures .1) in (
         first-as (own .starting-at .ensures) answer,

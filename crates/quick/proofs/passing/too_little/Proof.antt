@@ -1,7 +1,7 @@
 -- `quick::passing::too_little` meets its contract: one direction, or else the other. Assumes nothing.
 use Rattle.quick.specs.Half.{common}
 use Rattle.quick.specs.SearchLaws.{or-first, or-second}
-use mathlib.Core.Path.{ap, ap₂}
+use mathlib.Core.Path.{ap}
 use lib.Dec.{ltb}
 use borrow.Author.Tests.{lt-ltb, le-ltb}
 use borrow.Author.Needs.{needs}
@@ -16,13 +16,13 @@ common-requires-2 c κs = search needs
 
 returns : tie.Need-returns
 returns c =
-    let a = c .before .before .before .before .before .before .before .before .before .before .args in
+    let a = c .before .before .args in
     or-first (ltb (common (a .g .west .0) (a .g .east .0) (a .r .west .0) (a .r .east .0)) (a .least))
     (ap (λ n. ltb n (a .least)) (c .before .common .ensures)) (lt-ltb (c .before .common .result) (a .least) (c .if1 .taken))
 
 returns-2 : tie.Need-returns-2
 returns-2 c =
-    let a = c .before .before .before .before .before .before .before .before .before .before .before .args in
+    let a = c .before .before .before .args in
     or-second (ap (λ n. ltb n (a .least)) (c .before .before .common .ensures)) (le-ltb (c .before .before .common .result) (a .least) (c .before .if1 .left))
     (ap (λ n. ltb n (a .least)) (c .common2 .ensures))
 

@@ -20,7 +20,7 @@ apart-requires-2 c κs = search needs
 
 returns : tie.Need-returns
 returns c =
-    let a = c .before .before .before .before .before .before .before .args in
+    let a = c .before .before .before .args in
     or-first (ltb (distance (a .r .south .0) (a .r .north .0)) (narrowest (a .level)))
     (ap₂ ltb (c .before .apart .ensures) (c .before .before .narrowest .ensures))
     (lt-ltb (c .before .apart .result) (c .before .before .narrowest .result) (c .if1 .taken))
