@@ -45,7 +45,7 @@ pub fn odd_count(edges: &[u32], p: Point) -> bool
 pub fn inside(edges: &[u32], c: Cell) -> bool
     ensures { λ m. ⌜ m ≡ (isCell c && Boundary·inside (edgesIn (now (edges .entry))) c) ⌝ }
 {
-    let found = ground::sides_found(c);
+    let found = cells::sides_found(c);
     match found {
         Sides::Of(r) => unmet(edges, r) && odd_count(edges, ground::centre(r)),
         Sides::NoCell => false,

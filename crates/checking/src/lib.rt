@@ -44,12 +44,12 @@ fn ground_checks(numbers: &[u32], r: Rectangle) -> Coded
     requires { ⌜ r ≡ extremesOf (cornersOf (now numbers)) ⌝ }
     ensures { λ r. ⌜ says r ≡ run (groundChecks (cornersOf (now (numbers .entry)))) ⌝ }
 {
-    let above = unit::first_above(numbers);
+    let above = extents::first_above(numbers);
     if above < numbers.len() / 2 {
         let corner = above as u32;
         return Coded::Range(corner);
     }
-    if DEGREE < unit::span(r) {
+    if DEGREE < extents::span(r) {
         return Coded::Extent;
     }
     Coded::Accepted
@@ -100,7 +100,7 @@ fn checks(room: usize, numbers: &[u32], r: Rectangle, kind: Kind, number: u32) -
 pub fn admit(room: usize, numbers: &[u32], kind: Kind, number: u32) -> Admission
     ensures { λ r. ⌜ tells r ≡ admitting room (now (numbers .entry)) kind number ⌝ }
 {
-    let r = unit::extremes(numbers);
+    let r = extents::extremes(numbers);
     let said = checks(room, numbers, r, kind, number);
     if coded_number(said) != 0 {
         return Admission::Refused(said);

@@ -50,7 +50,7 @@ pub(crate) fn fields(r: Rectangle, number: u32, c: Cell, sides: Rectangle) -> Fi
     ensures { λ f. ⌜ f ≡ fieldsOf r number c ⌝ }
 {
     let p = reference(c, sides);
-    let level = scale_of(unit::span(r));
+    let level = scale_of(extents::span(r));
     let s = ground::size(level);
     Fields {
         reference: p,

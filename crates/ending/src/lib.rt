@@ -30,7 +30,7 @@ fn end(room: &mut [u8], f: Fields) -> Coded
 fn end_at(room: &mut [u8], r: Rectangle, number: u32, c: Cell) -> Coded
     ensures { λ a. ⌜ leaves a (now (room .exit)) ≡ finishing (now (room .entry)) r number (At c) ⌝ }
 {
-    let found = ground::sides_found(c);
+    let found = cells::sides_found(c);
     match found {
         Sides::Of(sides) => end(room, fields::fields(r, number, c, sides)),
         Sides::NoCell => Coded::NoCell,

@@ -4,9 +4,7 @@ mod halves;
 mod rectangles;
 
 pub use cells::Sides;
-pub use cells::high_side;
-pub use cells::low_side;
-pub use cells::sides_found;
+pub use cells::afresh;
 pub use halves::lat_split;
 pub use halves::lon_split;
 pub use halves::narrowest;

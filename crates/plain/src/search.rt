@@ -19,7 +19,7 @@ fn try_west(edges: &[u32], r: Rectangle, level: u32, west: Lon) -> Choice
     ensures { λ c. ⌜ c ≡ tryWest r (edgesIn (now (edges .entry))) level (west .0) ⌝ }
 {
     let from = r.south;
-    let mut south = ground::low_side(level, from.0);
+    let mut south = cells::low_side(level, from.0);
     while south < r.north.0 {
         let c = Cell {
             level,
@@ -29,7 +29,7 @@ fn try_west(edges: &[u32], r: Rectangle, level: u32, west: Lon) -> Choice
         if boundary::inside(edges, c) {
             return Choice::At(c);
         }
-        south = ground::high_side(level, south) as u32;
+        south = cells::high_side(level, south) as u32;
     }
     Choice::Nowhere
 }
@@ -41,13 +41,13 @@ pub(crate) fn try_level(edges: &[u32], r: Rectangle, level: u32) -> Choice
     ensures { λ c. ⌜ c ≡ tryLevel r (edgesIn (now (edges .entry))) level ⌝ }
 {
     let from = r.west;
-    let mut west = ground::low_side(level, from.0);
+    let mut west = cells::low_side(level, from.0);
     while west < r.east.0 {
         let tried = try_west(edges, r, level, Lon(west));
         if let Choice::At(c) = tried {
             return Choice::At(c);
         }
-        west = ground::high_side(level, west) as u32;
+        west = cells::high_side(level, west) as u32;
     }
     Choice::Nowhere
 }

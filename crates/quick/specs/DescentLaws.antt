@@ -304,6 +304,7 @@ module _ {es : List Edge} {room : List ℕ} {half : Half} {s : Sought} {left : �
   lon-corner p g within west south e t =
       let own : Ground (s .finest - left / 2) (s .finest - left / 2) p = subst (λ (n : ℕ). Ground n n p) finer-lon g in
       let c : Cell = cellOf (s .finest - left / 2) p in
+      let least : ℕ = max (s .finest - left / 2) (s .coarsest) in
       let same : c ≡ cellOf (s .finest - left / 2) (half .ground) = λ i. record { level = s .finest - left / 2; west = west i; south = south i } in
       let sides = ground-cell es lon-level own in
       let is = cell-cell es lon-level own in
@@ -318,7 +319,7 @@ module _ {es : List Edge} {room : List ℕ} {half : Half} {s : Sought} {left : �
         lies = subst (λ (x : Rectangle). Within x (half .ground)) (sym sides) within;
       })
       refl (ap (λ x. x .0) west) (ap (λ y. y .0) south)
-      (unsettled-ahead (max (s .finest - left / 2) (s .coarsest)) (s .finest) found c (subst (λ (x : Lon). settledAt found x (max (s .finest - left / 2) (s .coarsest)) (s .finest) ≡ false) (sym west) t) (omega arith)))
+      (unsettled-ahead least (s .finest) found c (subst (λ (x : Lon). settledAt found x least (s .finest) ≡ false) (sym west) t) (omega arith)))
 
   -- Ground that is inside has the answer in its south-west corner
   pub lon-inside : groundInside es (half .ground) ≡ true

@@ -37,7 +37,8 @@ pub(crate) fn settled(found: Choice, west: Lon, level: u32, sought: Sought) -> b
     c.level <= least
 }
 
-// Halves by latitude, and goes on by longitude.
+// Halves by latitude, and goes on by longitude. The half's edges are sorted here, after one has met it, and
+// not for each of its parts.
 pub(crate) fn by_lat(
     numbers: &[u32],
     room: &mut [u32],
@@ -76,7 +77,8 @@ pub(crate) fn by_lat(
     by_lon(numbers, room, north_half(own, at), sought, left - 1, first)
 }
 
-// Halves by longitude, and goes on by latitude.
+// Halves by longitude, and goes on by latitude. Where the half is inside, so is the cell of the next level
+// in its south-west corner.
 fn by_lon(
     numbers: &[u32],
     room: &mut [u32],

@@ -143,9 +143,9 @@ fn in_column(
     let from = r.south;
     let to = r.north;
     let mut found = before;
-    let mut south = ground::low_side(top, from.0);
+    let mut south = cells::low_side(top, from.0);
     while south < to.0 {
-        let north = ground::high_side(top, south) as u32;
+        let north = cells::high_side(top, south) as u32;
         let cell = Rectangle {
             west,
             east,
@@ -170,9 +170,9 @@ fn in_levels(numbers: &[u32], room: &mut [u32], count: usize, sought: Sought, to
     let from = r.west;
     let to = r.east;
     let mut found = Choice::Nowhere;
-    let mut west = ground::low_side(top, from.0);
+    let mut west = cells::low_side(top, from.0);
     while west < to.0 {
-        let east = ground::high_side(top, west) as u32;
+        let east = cells::high_side(top, west) as u32;
         found = in_column(
             numbers,
             room,

@@ -1,11 +1,6 @@
 // A unit: what coding is, its answers, and the unit's extents. The definitions are in specs/: scale,
 // spans, checks and coding in Unit.antt, the frame that both roads share around their search in
 // Frame.antt.
-mod extents;
-
-pub use extents::extremes;
-pub use extents::first_above;
-pub use extents::span;
 ghost use mathlib.Core.Path.{_≡_};
 ghost use Rattle.unit.specs.Frame.{says};
 ghost use Rattle.unit.specs.Unit.{kindOf};

@@ -114,7 +114,10 @@ passed-told PassedOver k l = refl
 passed-told Inside k l = absurd (no-key (λ x. omega arith) (λ x. omega arith) k)
 passed-told (Met place) k l = absurd (no-key (λ x. omega arith) (λ x. omega arith) l)
 
--- What is so of a half is so of it by another name
+-- What is so of ground or of a half is so of it by another name
+first-on : {es : List Edge} {from finest : ℕ} {found a : Choice} {g r : Rectangle} → g ≡ r → First es from finest g found a → First es from finest r found a
+first-on {es} {from} {finest} {found} {a} e f = subst (λ (x : Rectangle). First es from finest x found a) e f
+
 first-as : {es : List Edge} {from finest : ℕ} {found a : Choice} {h k : Half} → h ≡ k → First es from finest (h .ground) found a
     → First es from finest (k .ground) found a
 first-as {es} {from} {finest} {found} {a} e f = subst (λ (x : Half). First es from finest (x .ground) found a) e f
@@ -252,8 +255,7 @@ module _ (t : ℕ) where
       let own = lat-sorted (call .before .before .before) in
       let s = lat-start (lat-asked (lat-some own .before)) in
       let answer = lat-below (lat-owned own) (lat-some own .if2 .left) (call .by-lon .result) (lat-owned-unmet own) (call .by-lon .ensures .0) in (
-        subst (λ (g : Rectangle). First (boundaryOf (s .args .numbers .now)) (s .args .sought .finest - s .args .left / 2) (s .args .sought .finest) g (s .args .found) (call .by-lon .result))
-            (own .sorted .ensures .0 .0) answer,
+        first-on (own .sorted .ensures .0 .0) answer,
         same-then (s .args .room .now) (own .sorted .last .1 .0) (call .by-lon .last .1 .0) (own .sorted .ensures .1) (call .by-lon .ensures .1),
       )
 
@@ -317,8 +319,7 @@ module _ (t : ℕ) where
       let answer = lat-joined (lat-owned own) (lat-some own .if2 .left) (both .before .before .before .lat-split .ensures) (both .if3 .left)
       kept (first .by-lon2 .result) (lat-first first) (call .by-lon3 .result) (lat-owned-unmet own) (first-as (north .north-half .ensures) (call .by-lon3 .ensures .0)) in
       let last = same-as (first .by-lon2 .last .1 .0) (call .by-lon3 .last .1 .0) (north .north-half .ensures) (call .by-lon3 .ensures .1) in (
-        subst (λ (g : Rectangle). First (boundaryOf (s .args .numbers .now)) (s .args .sought .finest - s .args .left / 2) (s .args .sought .finest) g (s .args .found) (call .by-lon3 .result))
-            (own .sorted .ensures .0 .0) answer,
+        first-on (own .sorted .ensures .0 .0) answer,
         same-then (s .args .room .now) (own .sorted .last .1 .0) (call .by-lon3 .last .1 .0) (own .sorted .ensures .1) (λ j h. last j h ∙ lat-kept first j h),
       )
 

@@ -27,8 +27,8 @@ seen c = c .edge-at .ensures
 
 -- whether it is beyond a side
 beyond-told : (c : tie.After-beyond Inv-loop μ-loop)
-    → beyond (edgeIn (c .before .before .before .before .loop .room) (c .before .before .before .before .loop .i)) (c .before .before .before .before .before .before .args .ground)
-    ≡ c .beyond .result
+    → let at = c .before .before .before .before in
+    beyond (edgeIn (at .loop .room) (at .loop .i)) (at .before .before .args .ground) ≡ c .beyond .result
 beyond-told c =
     let start = c .before .before .before .before .before .before in
     sym (c .beyond .ensures ∙ ap (λ (e : Edge). beyond e (start .args .ground)) (seen (c .before)))

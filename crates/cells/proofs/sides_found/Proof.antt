@@ -1,14 +1,14 @@
--- `ground::cells::sides_found` meets its contract: the first part of the test that fails decides. Assumes nothing.
+-- `cells::sides_found` meets its contract: the first part of the test that fails decides. Assumes nothing.
 use Prim.Native.Nat.{_≤_}
 use native.Mathlib.Omega.{arith}
 use mathlib.Core.Path.{_≡_, sym, _∙_}
 use borrow.Author.Tests.{le-leb, lt-leb, not-true, not-false}
 use Rattle.ground.specs.Levels.{latEnd, lonEnd}
 use Rattle.ground.specs.Cells.{highSide, sidesOf, isSide, isCell, sidesFound}
 use Rattle.ground.specs.CellsLaws.{side-ends}
 use borrow.Author.Needs.{needs}
-use Rattle.ground.proofs.cells.sides_found.Statement.{statement}
-use Rattle.ground.proofs.cells.sides_found.Tie as tie
+use Rattle.cells.proofs.sides_found.Statement.{statement}
+use Rattle.cells.proofs.sides_found.Tie as tie
 
 ends : (c : tie.Else4)
     → (highSide (c .before .before .before .before .before .before .before .before .args .c .level) (c .before .before .before .before .before .before .before .before .args .c .west .0) ≤ lonEnd)

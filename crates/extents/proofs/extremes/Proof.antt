@@ -1,14 +1,14 @@
--- `unit::extents::extremes` meets its contract: the rectangle holds the corners behind the loop. Assumes nothing.
+-- `extents::extremes` meets its contract: the rectangle holds the corners behind the loop. Assumes nothing.
 use Prim.Native.Nat.{_+_, _-_, _/_}
 use mathlib.Core.Path.{ap, sym, subst}
 use borrow.Author.Needs.{needs}
 use lib.ListN.{length}
 use Rattle.ground.specs.declared.Rectangle.{Rectangle}
 use Rattle.corners.specs.Corners.{no-corners}
 use Rattle.unit.specs.Extents.{extremesOf}
 use Rattle.unit.specs.Widening.{Reached, reach-begin, reach-again, reach-end}
-use Rattle.unit.proofs.extents.extremes.Statement.{statement}
-use Rattle.unit.proofs.extents.extremes.Tie as tie
+use Rattle.extents.proofs.extremes.Statement.{statement}
+use Rattle.extents.proofs.extremes.Tie as tie
 
 abbrev Inv-loop : tie.InvT-loop
 Inv-loop numbers count r₀ i₀ r i = Reached numbers r i

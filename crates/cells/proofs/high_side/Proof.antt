@@ -1,12 +1,12 @@
--- `ground::cells::high_side` meets its contract: the full size, or the cut where that comes first. Assumes nothing.
+-- `cells::high_side` meets its contract: the full size, or the cut where that comes first. Assumes nothing.
 use Prim.Native.Nat.{ℕ, _+_, _*_, _/_, _%_, min}
 use native.Mathlib.Nat.{div-add-mod'}
 use native.Mathlib.Omega.{arith}
 use mathlib.Core.Path.{_≡_, ap₂}
 use Rattle.ground.specs.Cells.{highSide}
 use borrow.Author.Needs.{needs}
-use Rattle.ground.proofs.cells.high_side.Statement.{statement}
-use Rattle.ground.proofs.cells.high_side.Tie as tie
+use Rattle.cells.proofs.high_side.Statement.{statement}
+use Rattle.cells.proofs.high_side.Tie as tie
 
 whole : (c : tie.After-size)
     → c .before .before .args .a / c .before .afresh .result * c .before .afresh .result + c .before .before .args .a % c .before .afresh .result

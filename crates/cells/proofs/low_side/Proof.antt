@@ -1,12 +1,12 @@
--- `ground::cells::low_side` meets its contract: a low side is at most the angle, so it fits. Assumes nothing.
+-- `cells::low_side` meets its contract: a low side is at most the angle, so it fits. Assumes nothing.
 use Prim.Native.Nat.{_+_, _*_, _/_, _%_}
 use native.Mathlib.Nat.{div-add-mod'}
 use native.Mathlib.Omega.{arith}
 use mathlib.Core.Path.{_≡_}
 use Rattle.ground.specs.Cells.{lowSide}
 use borrow.Author.Needs.{needs}
-use Rattle.ground.proofs.cells.low_side.Statement.{statement}
-use Rattle.ground.proofs.cells.low_side.Tie as tie
+use Rattle.cells.proofs.low_side.Statement.{statement}
+use Rattle.cells.proofs.low_side.Tie as tie
 
 whole : (c : tie.After-size)
     → c .before .before .args .a / c .before .afresh .result * c .before .afresh .result + c .before .before .args .a % c .before .afresh .result

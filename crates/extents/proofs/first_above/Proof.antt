@@ -1,4 +1,4 @@
--- `unit::extents::first_above` meets its contract: no corner before `i` is above its range. Assumes nothing.
+-- `extents::first_above` meets its contract: no corner before `i` is above its range. Assumes nothing.
 use Prim.Native.Nat.{ℕ, _-_, _/_}
 use mathlib.Core.Path.{_≡_, ap, sym, _∙_}
 use mathlib.Core.List.{List}
@@ -9,9 +9,9 @@ use Rattle.ground.specs.declared.Point.{Point}
 use Rattle.ground.specs.Levels.{lat, lon}
 use Rattle.facts.specs.Places.{NoneBefore, begin, again, found, finish}
 use Rattle.corners.specs.Corners.{cornersOf, corners-length, corner-get}
 use Rattle.unit.specs.Unit.{aboveRange}
-use Rattle.unit.proofs.extents.first_above.Statement.{statement}
-use Rattle.unit.proofs.extents.first_above.Tie as tie
+use Rattle.extents.proofs.first_above.Statement.{statement}
+use Rattle.extents.proofs.first_above.Tie as tie
 
 abbrev Inv-loop : tie.InvT-loop
 Inv-loop numbers count i₀ i = NoneBefore aboveRange (cornersOf numbers) i

@@ -1,12 +1,12 @@
--- `unit::extents::above_range` meets its contract: the latitude decides, or the longitude. Assumes nothing.
+-- `extents::above_range` meets its contract: the latitude decides, or the longitude. Assumes nothing.
 use mathlib.Core.Path.{sym, ap, _∙_}
 use mathlib.Core.Bool.{Bool, _||_}
 use lib.Dec.{ltb}
 use borrow.Author.Tests.{lt-ltb, le-ltb}
 use Rattle.facts.specs.Tests.{either-left}
 use Rattle.ground.specs.Levels.{latEnd, lonEnd}
-use Rattle.unit.proofs.extents.above_range.Statement.{statement}
-use Rattle.unit.proofs.extents.above_range.Tie as tie
+use Rattle.extents.proofs.above_range.Statement.{statement}
+use Rattle.extents.proofs.above_range.Tie as tie
 
 returns : tie.Need-returns
 returns c =
