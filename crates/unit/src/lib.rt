@@ -1,5 +1,5 @@
-// A unit: what coding is, its answers, and the unit's extents. The definitions are in specs/: scale,
-// spans, checks and coding in Unit.antt, the frame that both roads share around their search in
+// A unit: what coding is, and its answers. The definitions are in specs/: extents in Extents.antt,
+// scale, spans, checks and coding in Unit.antt, the frame that both roads share around their search in
 // Frame.antt.
 ghost use mathlib.Core.Path.{_≡_};
 ghost use Rattle.unit.specs.Frame.{says};
