@@ -31,6 +31,14 @@ static void *plain(void *said) {
     return said;
 }
 
+static void *read_and_write(void *said) {
+    static const char text[] = "28HD5RK6WKYRR6660000";
+    struct linenspruce_reading of = linenspruce_read((const uint8_t *)text, 20);
+    uint8_t room[20];
+    *(struct linenspruce_reply *)said = linenspruce_write(room, sizeof room, of.fields);
+    return said;
+}
+
 /* The bytes of stack that a thread takes which does this alone. */
 static size_t taken(void *(*work)(void *), struct linenspruce_reply *said) {
     pthread_attr_t attr;
@@ -47,7 +55,7 @@ static size_t taken(void *(*work)(void *), struct linenspruce_reply *said) {
 }
 
 int main(void) {
-    struct linenspruce_reply of_quick = { 0 }, of_plain = { 0 }, none = { 0 };
+    struct linenspruce_reply of_quick = { 0 }, of_plain = { 0 }, of_both = { 0 }, none = { 0 };
     size_t i, half = CORNERS / 2, own, most;
     for (i = 0; i < half; i++) {
         uint32_t at = (uint32_t)(i * (DEGREE - 16) / (half - 1));
@@ -56,7 +64,8 @@ int main(void) {
     }
     own = taken(nothing, &none);
     most = taken(quick, &of_quick) - own;
-    printf("library: the quick road took %lu KiB of stack, the plain road %lu KiB\n",
-           (unsigned long)(most / 1024 + 1), (unsigned long)((taken(plain, &of_plain) - own) / 1024 + 1));
-    return of_quick.number != 7 || of_plain.number != 0 || most > 192 * 1024;
+    printf("library: the quick road took %lu KiB of stack, the plain road %lu KiB, reading and writing %lu KiB\n",
+           (unsigned long)(most / 1024 + 1), (unsigned long)((taken(plain, &of_plain) - own) / 1024 + 1),
+           (unsigned long)((taken(read_and_write, &of_both) - own) / 1024 + 1));
+    return of_quick.number != 7 || of_plain.number != 0 || of_both.number != 0 || most > 192 * 1024;
 }
