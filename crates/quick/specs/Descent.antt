@@ -21,7 +21,7 @@ use Rattle.quick.specs.Half.{Sound}
 use Rattle.quick.specs.First.{Past}
 
 -- No cell of a level before one is inside
-pub record NoneInside (es : List Edge) (level : ℕ) : Type 0 where
+pub record NoneCoarser (es : List Edge) (level : ℕ) : Type 0 where
   pub coarsest : coarsestLevel ≤ level
   pub finest : level ≤ finestLevel + 1
   pub none : (d : Cell) → IsCell d → inside es d ≡ true → d .level < level → ⊥
@@ -29,7 +29,7 @@ pub record NoneInside (es : List Edge) (level : ℕ) : Type 0 where
 -- What is sought is so: no cell of a coarser level is inside, and none of the finest is narrower than told
 pub record Seeks (es : List Edge) (s : Sought) : Type 0 where
   pub over : Over (s .extents) es
-  pub none : NoneInside es (s .coarsest)
+  pub none : NoneCoarser es (s .coarsest)
   pub most : s .finest ≤ finestLevel
   pub least : s .least ≡ narrowest (s .finest)
 

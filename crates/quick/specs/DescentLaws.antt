@@ -29,7 +29,7 @@ use Rattle.chosen.specs.declared.Choice.{Choice}
 use Rattle.chosen.specs.declared.Choice.the-variants.{At}
 use Rattle.quick.specs.declared.half.Half.{Half}
 use Rattle.quick.specs.declared.half.Sought.{Sought}
-use Rattle.quick.specs.Half.{Sound, partOf, Between, HoldsNone}
+use Rattle.quick.specs.Half.{Sound, partOf, StrictlyBetween, HoldsNone}
 use Rattle.quick.specs.HalfLaws.{south-part, north-part, west-part, east-part, sound-part}
 use Rattle.quick.specs.PassingLaws.{met-inside}
 use Rattle.quick.specs.First.{Wanted, First, Past, settledAt}
@@ -183,7 +183,7 @@ module _ {es : List Edge} {room : List ℕ} {half : Half} {s : Sought} {left : �
         lat-split =
             lat-halves (s .finest - left / 2) (omega (arith, b .coarsest)) (omega (arith, b .even, b .seeks .most)) (b .ground) (ap (λ y. y .0) is) other
 
-        lat-between : Between (half .ground .south .0) (at .0) (half .ground .north .0)
+        lat-between : StrictlyBetween (half .ground .south .0) (at .0) (half .ground .north .0)
         lat-between = record { above = lat-split .low; below = lat-split .high }
 
         -- The south half
@@ -269,7 +269,7 @@ module _ {es : List Edge} {room : List ℕ} {half : Half} {s : Sought} {left : �
       lon-split : LonHalves (s .finest - left / 2 - 1) (half .ground) at
       lon-split = lon-halves (s .finest - left / 2 - 1) (omega (arith, b .coarsest)) (omega (arith, b .coarsest, b .seeks .most)) own is-next other
 
-      lon-between : Between (half .ground .west .0) (at .0) (half .ground .east .0)
+      lon-between : StrictlyBetween (half .ground .west .0) (at .0) (half .ground .east .0)
       lon-between = record { above = lon-split .low; below = lon-split .high }
 
       -- The west half

@@ -69,13 +69,17 @@ pub record Sound (es : List Edge) (room : List ℕ) (h : Half) : Type 0 where
   pub asked : Keeps es (h .ground) (keptIn room (h .first) (h .to))
   pub odd : h .odd ≡ pointInside (h .corner) es
 
--- A half with part of its ground
-abbrev pub partOf : Half → Rectangle → Half
-partOf h part = record { ground = part; corner = h .corner; odd = h .odd; east = h .east; from = h .from; first = h .first; to = h .to }
+-- A half with part of its ground and another first edge
+abbrev pub narrowed : Half → Rectangle → ℕ → Half
+narrowed h part first = record { ground = part; corner = h .corner; odd = h .odd; east = h .east; from = h .from; first = first; to = h .to }
 
--- A half with another first edge
+-- with part of its ground alone
+abbrev pub partOf : Half → Rectangle → Half
+partOf h part = narrowed h part (h .first)
+
+-- and with another first edge alone
 abbrev pub startingAt : Half → ℕ → Half
-startingAt h first = record { ground = h .ground; corner = h .corner; odd = h .odd; east = h .east; from = h .from; first = first; to = h .to }
+startingAt h first = narrowed h (h .ground) first
 
 -- A part of a half's ground
 pub record Part (h : Half) (part : Rectangle) : Type 0 where
@@ -83,7 +87,7 @@ pub record Part (h : Half) (part : Rectangle) : Type 0 where
   pub within : Within part (h .ground)
 
 -- A side between two others
-pub record Between (low middle high : ℕ) : Type 0 where
+pub record StrictlyBetween (low middle high : ℕ) : Type 0 where
   pub above : low < middle
   pub below : middle < high
 
@@ -103,8 +107,8 @@ tooLittle g r least =
     || ltb (common (g .west .0) (g .east .0) (r .west .0) (r .east .0)) least
 
 -- Ground that no edge meets and whose centre is not inside
-unfoldable pub outside : List Edge → Rectangle → Bool
-outside es g = unmet g es && not (pointInside (centreOf g) es)
+unfoldable pub groundOutside : List Edge → Rectangle → Bool
+groundOutside es g = unmet g es && not (pointInside (centreOf g) es)
 
 -- Ground that holds no wanted cell: none of a level up to the finest that is wanted is inside and within it
 abbrev pub HoldsNone : List Edge → ℕ → Rectangle → Type 0

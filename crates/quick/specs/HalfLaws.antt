@@ -27,7 +27,7 @@ use Rattle.boundary.specs.Keeps.{Keeps, keeps-inner, keeps-drop, keeps-unmet, k
 use Rattle.boundary.specs.Listed.{edgesIn, edgeIn, withEdge}
 use Rattle.boundary.specs.ListedLaws.{edges-length, edges-from, with-length, edge-there, edge-before}
 use Rattle.quick.specs.declared.half.Half.{Half}
-use Rattle.quick.specs.Half.{keptIn, meeting, MissedTo, NearFirst, MetFirst, Same, Sound, partOf, startingAt, Part, Between, AllIn}
+use Rattle.quick.specs.Half.{keptIn, meeting, MissedTo, NearFirst, MetFirst, Same, Sound, narrowed, partOf, startingAt, Part, StrictlyBetween, AllIn}
 
 -- Edges that are the same at so many places from one on make the same list
 places-same : (f g : ℕ → Edge) (n i : ℕ) → ((j : ℕ) → i ≤ j → j < i + n → f j ≡ g j) → map f (countUp n i) ≡ map g (countUp n i)
@@ -182,12 +182,12 @@ module _ {es : List Edge} {room : List ℕ} {h : Half} (s : Sound es room h) whe
       ∙ ap₂ (λ (b : Bool) (x : Lon). differ b (oddly (turns x (h .corner) q) kept)) (sym (s .odd)) (sym (s .east)))
 
 -- The loop of `odd_at`: the count so far, with the turns of the edges from place i on
-pub record OddFrom (room : List ℕ) (turn : Edge → Bool) (whole : Bool) (to : ℕ) (odd : Bool) (i : ℕ) : Type 0 where
+pub record TurnedFrom (room : List ℕ) (turn : Edge → Bool) (whole : Bool) (to : ℕ) (odd : Bool) (i : ℕ) : Type 0 where
   pub rest : whole ≡ differ odd (oddly turn (keptIn room i to))
 
-module _ {room : List ℕ} {turn : Edge → Bool} {whole : Bool} {to : ℕ} {odd : Bool} {i : ℕ} (o : OddFrom room turn whole to odd i) where
+module _ {room : List ℕ} {turn : Edge → Bool} {whole : Bool} {to : ℕ} {odd : Bool} {i : ℕ} (o : TurnedFrom room turn whole to odd i) where
   -- One edge more
-  pub odd-again : {t : Bool} {e : Edge} → i < to → t ≡ turn e → e ≡ edgeIn room i → OddFrom room turn whole to (not (Bool·beq odd t)) (i + 1)
+  pub odd-again : {t : Bool} {e : Edge} → i < to → t ≡ turn e → e ≡ edgeIn room i → TurnedFrom room turn whole to (not (Bool·beq odd t)) (i + 1)
   odd-again {t} {e} h is seen =
       let rest = oddly turn (keptIn room (i + 1) to) in
       record {
@@ -306,21 +306,21 @@ sound-same {es} {room} {later} {h} s same long =
 
 module _ {es : List Edge} {room : List ℕ} {h : Half} (s : Sound es room h) where
   -- The parts of a half's ground on both sides of a latitude or a longitude in it
-  pub south-part : (y : Lat) → Between (h .ground .south .0) (y .0) (h .ground .north .0) → Part h (southOf (h .ground) y)
+  pub south-part : (y : Lat) → StrictlyBetween (h .ground .south .0) (y .0) (h .ground .north .0) → Part h (southOf (h .ground) y)
   south-part y b = record { wide = omega (arith, s .wide .across, b .above); within = omega (arith, b .below) }
 
-  pub north-part : (y : Lat) → Between (h .ground .south .0) (y .0) (h .ground .north .0) → Part h (northOf (h .ground) y)
+  pub north-part : (y : Lat) → StrictlyBetween (h .ground .south .0) (y .0) (h .ground .north .0) → Part h (northOf (h .ground) y)
   north-part y b = record { wide = omega (arith, s .wide .across, b .below); within = omega (arith, b .above) }
 
-  pub west-part : (x : Lon) → Between (h .ground .west .0) (x .0) (h .ground .east .0) → Part h (westOf (h .ground) x)
+  pub west-part : (x : Lon) → StrictlyBetween (h .ground .west .0) (x .0) (h .ground .east .0) → Part h (westOf (h .ground) x)
   west-part x b = record { wide = omega (arith, s .wide .up, b .above); within = omega (arith, b .below) }
 
-  pub east-part : (x : Lon) → Between (h .ground .west .0) (x .0) (h .ground .east .0) → Part h (eastOf (h .ground) x)
+  pub east-part : (x : Lon) → StrictlyBetween (h .ground .west .0) (x .0) (h .ground .east .0) → Part h (eastOf (h .ground) x)
   east-part x b = record { wide = omega (arith, s .wide .up, b .below); within = omega (arith, b .above) }
 
-  -- A part of a half that shares its edges
-  pub sound-part : {part : Rectangle} → Part h part → Sound es room (partOf h part)
-  sound-part p =
+  -- A part of a half, with those of its edges to ask that are kept for the part
+  sound-narrowed : {part : Rectangle} {first : ℕ} → Part h part → Keeps es part (keptIn room first (h .to)) → Sound es room (narrowed h part first)
+  sound-narrowed p keeps =
       record {
         closed = s .closed;
         wide = p .wide;
@@ -329,24 +329,17 @@ module _ {es : List Edge} {room : List ℕ} {h : Half} (s : Sound es room h) whe
         lies = s .lies;
         east = s .east;
         kept = s .kept;
-        asked = keeps-inner (wide-ordered (p .wide)) (p .within) (s .asked);
+        asked = keeps;
         odd = s .odd;
       }
 
+  -- A part that shares its edges
+  pub sound-part : {part : Rectangle} → Part h part → Sound es room (partOf h part)
+  sound-part p = sound-narrowed p (keeps-inner (wide-ordered (p .wide)) (p .within) (s .asked))
+
   -- A half from the first edge on that meets it
   pub sound-starting : {place : ℕ} → MetFirst room (h .ground) (h .first) (h .to) place → Sound es room (startingAt h place)
-  sound-starting m =
-      record {
-        closed = s .closed;
-        wide = s .wide;
-        around = s .around;
-        within = s .within;
-        lies = s .lies;
-        east = s .east;
-        kept = s .kept;
-        asked = keeps-met s m;
-        odd = s .odd;
-      }
+  sound-starting m = sound-narrowed (record { wide = s .wide; within = within-self (h .ground) }) (keeps-met s m)
 
   -- and one with edges of its own
   pub sound-sorted : {later : List ℕ} {corner : Point} {odd : Bool} {place end : ℕ} → corner ≡ southWest (h .ground) → odd ≡ pointInside corner es

@@ -24,7 +24,7 @@ use Rattle.boundary.specs.Closed.{Closed}
 use Rattle.boundary.specs.InsideLaws.{point-ground, inside-point}
 use Rattle.chosen.specs.Chosen.{Over}
 use Rattle.chosen.specs.InExtents.{in-extents}
-use Rattle.quick.specs.Half.{common, tooLittle, outside, HoldsNone}
+use Rattle.quick.specs.Half.{common, tooLittle, groundOutside, HoldsNone}
 
 -- Ground with less of the extents in it than the narrowest wanted cell holds none
 pub little-none : {es : List Edge} {r : Rectangle} → Over r es → {finest : ℕ} → finest ≤ finestLevel → (g : Rectangle)
@@ -80,14 +80,14 @@ pub met-inside : (es : List Edge) (g : Rectangle) → unmet g es ≡ false → g
 unfolding groundInside
 met-inside es g e = ap (λ (t : Bool). t && pointInside (centreOf g) es) e
 
-pub met-outside : (es : List Edge) (g : Rectangle) → unmet g es ≡ false → outside es g ≡ true → ⊥
-unfolding outside
+pub met-outside : (es : List Edge) (g : Rectangle) → unmet g es ≡ false → groundOutside es g ≡ true → ⊥
+unfolding groundOutside
 met-outside es g e t =
     false≢true (sym e ∙ both (unmet g es) (not (pointInside (centreOf g) es)) t .0)
 
 -- Ground that is inside is not outside
-pub inside-outside : (es : List Edge) (g : Rectangle) → groundInside es g ≡ true → outside es g ≡ true → ⊥
-unfolding groundInside outside
+pub inside-outside : (es : List Edge) (g : Rectangle) → groundInside es g ≡ true → groundOutside es g ≡ true → ⊥
+unfolding groundInside groundOutside
 inside-outside es g i o =
     let t = both (unmet g es) (pointInside (centreOf g) es) i in
     let s = both (unmet g es) (not (pointInside (centreOf g) es)) o in

@@ -37,7 +37,7 @@ use Rattle.quick.specs.declared.half.Sought.{Sought}
 use Rattle.quick.specs.Half.{keptIn, Sound, AllIn}
 use Rattle.quick.specs.First.{Wanted, Gained, First, Past}
 use Rattle.quick.specs.FirstLaws.{before-most, first-stays, first-all, first-lat, first-lon, past-first}
-use Rattle.quick.specs.Descent.{Seeks, ByLat, Levels, column, everywhere, tooWide, TooWideBefore, NoneInside}
+use Rattle.quick.specs.Descent.{Seeks, ByLat, Levels, column, everywhere, tooWide, TooWideBefore, NoneCoarser}
 
 -- An answer of two tests in turn: the first where it holds
 pub or-first : {w a : Bool} (b : Bool) → w ≡ a → w ≡ true → w ≡ (a || b)
@@ -144,15 +144,15 @@ module _ {es : List Edge} {room : List ℕ} {count : ℕ} (all : AllIn es room c
       }
 
 -- The ground between two longitudes and two latitudes
-abbrev pub between : Lon → Lon → ℕ → ℕ → Rectangle
-between west east from south = record { west = west; east = east; south = lat from; north = lat south }
+abbrev pub stretch : Lon → Lon → ℕ → ℕ → Rectangle
+stretch west east from south = record { west = west; east = east; south = lat from; north = lat south }
 
 -- The column has been searched from a latitude up to a south side
 pub record UpTo (es : List Edge) (finest top : ℕ) (west east : Lon) (from south : ℕ) (before found : Choice) : Type 0 where
   pub is : lowSide top south ≡ south
   pub least : from ≤ south
   pub most : south ≤ latEnd
-  pub first : First es top finest (between west east from south) before found
+  pub first : First es top finest (stretch west east from south) before found
 
 -- The level to start from is a level
 pub top-level : {finest top : ℕ} → Levels finest top → IsLevel top
@@ -179,25 +179,25 @@ module _ {r : Rectangle} {es : List Edge} (o : Over r es) {finest top : ℕ} (l 
 
   module _ {west east : Lon} {from south : ℕ} {before found : Choice} (s : UpTo es finest top west east from south before found) where
     -- The next cell is past what is found
-    pub column-past : (north : ℕ) → Past before (column west east) → Past found (between west east south north)
+    pub column-past : (north : ℕ) → Past before (column west east) → Past found (stretch west east south north)
     column-past north past =
-        past-first (between west east south north) found (inl (omega arith)) (s .first) (west-past before past)
+        past-first (stretch west east south north) found (inl (omega arith)) (s .first) (west-past before past)
       where
-        west-past : (before : Choice) → Past before (column west east) → Past before (between west east south north)
+        west-past : (before : Choice) → Past before (column west east) → Past before (stretch west east south north)
         west-past (At c) (inl h) = inl h
         west-past (At c) (inr h) = let none : ⊥ = omega arith in absurd none
         west-past Nowhere h = tt
 
     -- One more cell
     pub column-again : {north : ℕ} (next : Choice) → south < r .north .0 → north ≡ highSide top south
-        → First es top finest (between west east south north) found next → UpTo es finest top west east from north before next
+        → First es top finest (stretch west east south north) found next → UpTo es finest top west east from north before next
     column-again {north} next less e first =
         let more : south < north = omega (arith, low-below-high top south (top-level l)) in
         record {
           is = subst (λ (n : ℕ). lowSide top n ≡ n) (sym e) (high-low top (top-level l) south (s .is));
           least = omega (arith, s .least);
           most = omega (arith, north-most (s .is) less);
-          first = first-lat (l .coarsest) (between west east from north) found next (lat south) (s .is) (s .least) (omega arith) (s .first) first;
+          first = first-lat (l .coarsest) (stretch west east from north) found next (lat south) (s .is) (s .least) (omega arith) (s .first) first;
         }
 
     -- At the end the ground has been searched
@@ -270,7 +270,7 @@ module _ {r : Rectangle} {es : List Edge} (o : Over r es) {finest top : ℕ} (l 
 
 module _ {r : Rectangle} {es : List Edge} (o : Over r es) where
   -- No cell of the levels that are too wide is inside
-  pub levels-begin : {level : ℕ} → (coarsestLevel ≤ level) × (level ≤ finestLevel + 1) → TooWideBefore r level → NoneInside es level
+  pub levels-begin : {level : ℕ} → (coarsestLevel ≤ level) × (level ≤ finestLevel + 1) → TooWideBefore r level → NoneCoarser es level
   levels-begin h unfit =
       record {
         coarsest = h .0;
@@ -279,15 +279,15 @@ module _ {r : Rectangle} {es : List Edge} (o : Over r es) where
       }
 
   -- What is sought from such a level on is so
-  pub seeks-begin : {level finest least : ℕ} → NoneInside es level → (level ≤ finest) × (finest ≤ finestLevel) → least ≡ narrowest finest
+  pub seeks-begin : {level finest least : ℕ} → NoneCoarser es level → (level ≤ finest) × (finest ≤ finestLevel) → least ≡ narrowest finest
       → Seeks es (record { extents = r; coarsest = level; finest = finest; least = least })
   seeks-begin none h e = record { over = o; none = none; most = h .1; least = e }
 
   -- Where none of a level up to 27 is, there is no chosen cell
-  pub levels-end : {level : ℕ} → NoneInside es level → finestLevel < level → choose r es ≡ Nowhere
+  pub levels-end : {level : ℕ} → NoneCoarser es level → finestLevel < level → choose r es ≡ Nowhere
   levels-end s past = none-choose o λ d is t. s .none d is (true-of (inside es d) t) (omega (arith, is .level .finest))
 
-  module _ {level finest top : ℕ} (s : NoneInside es level) (l : Levels finest top) (starts : top ≤ level) where
+  module _ {level finest top : ℕ} (s : NoneCoarser es level) (l : Levels finest top) (starts : top ≤ level) where
     -- An inside cell up to the finest level is wanted, as none is of a level before those that are searched
     inside-wanted : (d : Cell) → IsCell d → inside es d ≡ true → d .level ≤ finest → Wanted es top finest everywhere d
     inside-wanted d is t most = at (either-way level (d .level))
@@ -322,7 +322,7 @@ module _ {r : Rectangle} {es : List Edge} (o : Over r es) where
             })
 
     -- Else no cell of a level up to the finest is inside
-    pub levels-again : {found : Choice} → First es top finest everywhere Nowhere found → found ≡ Nowhere → NoneInside es (finest + 1)
+    pub levels-again : {found : Choice} → First es top finest everywhere Nowhere found → found ≡ Nowhere → NoneCoarser es (finest + 1)
     levels-again {found} first is =
         let f : First es top finest everywhere Nowhere Nowhere = subst (First es top finest everywhere Nowhere) is first in
         record {

@@ -2,7 +2,7 @@
 ghost use mathlib.Core.Path.{_≡_};
 ghost use mathlib.Core.Bool.{true};
 ghost use Rattle.boundary.specs.Listed.{boundaryOf};
-ghost use Rattle.quick.specs.Half.{Sound, common as Half·common, tooLittle, outside, HoldsNone, yes, Else};
+ghost use Rattle.quick.specs.Half.{Sound, common as Half·common, tooLittle, groundOutside, HoldsNone, yes, Else};
 ghost use Rattle.quick.specs.Descent.{Seeks};
 use crate::half::Half;
 use crate::half::Sought;
@@ -41,7 +41,7 @@ fn too_little(g: Rectangle, r: Rectangle, least: u32) -> bool
 pub(crate) fn test(numbers: &[u32], room: &[u32], half: Half, sought: Sought) -> Tested
     requires { ⌜ Sound (boundaryOf (now numbers)) (now room) half ⌝ }
     requires { ⌜ Seeks (boundaryOf (now numbers)) sought ⌝ }
-    ensures { λ t. ⌜ (outside (boundaryOf (now (numbers .entry))) (half .ground) ≡ true → yes t ≡ true) ⌝ }
+    ensures { λ t. ⌜ (groundOutside (boundaryOf (now (numbers .entry))) (half .ground) ≡ true → yes t ≡ true) ⌝ }
     ensures { λ t. ⌜ (yes t ≡ true → HoldsNone (boundaryOf (now (numbers .entry))) (sought .finest) (half .ground)) ⌝ }
     ensures { λ t. ⌜ Else (boundaryOf (now (numbers .entry))) (now (room .entry)) half t ⌝ }
 {

@@ -6,13 +6,13 @@ use Rattle.facts.specs.Tests.{differ}
 use Rattle.edge.specs.Edge.{turns}
 use Rattle.boundary.specs.Closed.{oddly}
 use Rattle.quick.specs.Half.{keptIn}
-use Rattle.quick.specs.HalfLaws.{OddFrom, odd-again, odd-end}
+use Rattle.quick.specs.HalfLaws.{TurnedFrom, odd-again, odd-end}
 use Rattle.quick.proofs.kept.odd_at.Statement.{statement}
 use Rattle.quick.proofs.kept.odd_at.Tie as tie
 
 abbrev Inv-loop : tie.InvT-loop
 Inv-loop room q p east to odd₀ i₀ odd i =
-    OddFrom room (turns east p q) (differ odd₀ (oddly (turns east p q) (keptIn room i₀ to))) to odd i
+    TurnedFrom room (turns east p q) (differ odd₀ (oddly (turns east p q) (keptIn room i₀ to))) to odd i
 
 abbrev μ-loop : tie.MeasureT-loop
 μ-loop room q p east to odd₀ i₀ odd i = to - i

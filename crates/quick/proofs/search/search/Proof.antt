@@ -7,14 +7,14 @@ use lib.ListN.{length}
 use Rattle.ground.specs.Levels.{finestLevel}
 use Rattle.boundary.specs.Listed.{boundaryOf}
 use Rattle.quick.specs.Half.{AllIn}
-use Rattle.quick.specs.Descent.{Levels, NoneInside}
+use Rattle.quick.specs.Descent.{Levels, NoneCoarser}
 use Rattle.quick.specs.SearchLaws.{seeks-begin, levels-begin, levels-found, levels-again, levels-end}
 use Rattle.quick.proofs.search.search.Statement.{statement}
 use Rattle.quick.proofs.search.search.Tie as tie
 
 abbrev Inv-loop : tie.InvT-loop
 Inv-loop numbers room₀ count r level₀ room level =
-    AllIn (boundaryOf numbers) room count × (length room ≡ length room₀) × NoneInside (boundaryOf numbers) level
+    AllIn (boundaryOf numbers) room count × (length room ≡ length room₀) × NoneCoarser (boundaryOf numbers) level
 
 abbrev μ-loop : tie.MeasureT-loop
 μ-loop numbers room₀ count r level₀ room level = finestLevel + 1 - level
