@@ -1,0 +1,1 @@
+// Two edges of a boundary: whether they share a point. What that is stands in specs/Pair.antt.
