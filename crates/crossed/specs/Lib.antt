@@ -1,2 +1,3 @@
 pub mod Around
 pub mod Crossed
+pub mod Ways

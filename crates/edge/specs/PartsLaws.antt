@@ -32,7 +32,7 @@ beyond-back (south h k) = south k h
 beyond-back (north h k) = north k h
 
 -- Two points are apart or one
-apart-or-one : (a p : Point) → Apart a p ⊎ (a ≡ p)
+pub apart-or-one : (a p : Point) → Apart a p ⊎ (a ≡ p)
 apart-or-one a p = at (eqb (a .lat .0) (p .lat .0)) (eqb (a .lon .0) (p .lon .0)) refl refl
   where
     at : (i j : Bool) → eqb (a .lat .0) (p .lat .0) ≡ i → eqb (a .lon .0) (p .lon .0) ≡ j → Apart a p ⊎ (a ≡ p)
