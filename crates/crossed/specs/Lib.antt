@@ -1,3 +1,4 @@
 pub mod Around
 pub mod Crossed
+pub mod CrossedLaws
 pub mod Ways
