@@ -1,4 +1,5 @@
 pub mod Around
+pub mod Chains
 pub mod Crossed
 pub mod CrossedLaws
-pub mod Ways
+pub mod RingLaws
