@@ -56,7 +56,7 @@ below : {a b : ℕ} → a < b → a ≤ b
 below h = omega arith
 
 -- If one is positive so is the other
-sign-lt : {l r m s : ℕ} → SameSign l r m s → r < l → s < m
+pub sign-lt : {l r m s : ℕ} → SameSign l r m s → r < l → s < m
 sign-lt {l} {r} {m} {s} g h = at (either-way m s)
   where
     at : (m ≤ s) ⊎ (s < m) → s < m
@@ -73,6 +73,10 @@ sign-le {l} {r} {m} {s} g h = at (either-way s m)
     at : (s ≤ m) ⊎ (m < s) → s ≤ m
     at (inl k) = k
     at (inr k) = let more : l < r = sign-lt (sign-other-way (sign-back g)) k in omega arith
+
+-- If one is 0 so is the other
+pub sign-none : {l r m s : ℕ} → SameSign l r m s → l ≡ r → m ≡ s
+sign-none g e = omega (arith, sign-le g (omega (arith, e)), sign-le (sign-other-way g) (omega (arith, e)))
 
 -- so a test says the same of both
 same-ltb : {l r m s : ℕ} → SameSign l r m s → ltb r l ≡ ltb s m

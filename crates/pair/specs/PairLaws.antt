@@ -10,7 +10,7 @@ use borrow.Author.Tests.{leb-false, lt-leb, ltb-true, lt-ltb, not-false}
 use Rattle.facts.specs.Tests.{both, either, either-left, either-right}
 use Rattle.ground.specs.declared.Point.{Point}
 use Rattle.side.specs.Side.{leftSum, rightSum, left}
-use Rattle.edge.specs.Edge.{Edge, edge, noLength}
+use Rattle.edge.specs.Edge.{Edge, edge, noLength, Between, OnEdge}
 use Rattle.edge.specs.MissesLaws.{one-point}
 use Rattle.pair.specs.Pair.{overlap, overlapping, asideOf, sharePoint, onOneLine, onSameSide, shareMore}
 
@@ -44,6 +44,11 @@ pub data Way : Type 0 where
 abbrev pub along : Way → Point → ℕ
 along up p = p .lat .0
 along across p = p .lon .0
+
+-- A point on an edge is between its ends in each of them
+pub between-along : {a p b : Point} (w : Way) → OnEdge a p b → Between (along w a) (along w p) (along w b)
+between-along up on = on .lat
+between-along across on = on .lon
 
 -- Of two pairs of numbers, the first lies below the second or above it
 pub data Beside (a b c d : ℕ) : Type 0 where
