@@ -56,7 +56,7 @@ below : {a b : ℕ} → a < b → a ≤ b
 below h = omega arith
 
 -- If one is positive so is the other
-sign-lt : {l r m s : ℕ} → SameSign l r m s → r < l → s < m
+pub sign-lt : {l r m s : ℕ} → SameSign l r m s → r < l → s < m
 sign-lt {l} {r} {m} {s} g h = at (either-way m s)
   where
     at : (m ≤ s) ⊎ (s < m) → s < m
@@ -73,6 +73,10 @@ sign-le {l} {r} {m} {s} g h = at (either-way s m)
     at : (s ≤ m) ⊎ (m < s) → s ≤ m
     at (inl k) = k
     at (inr k) = let more : l < r = sign-lt (sign-other-way (sign-back g)) k in omega arith
+
+-- If one is 0 so is the other
+pub sign-none : {l r m s : ℕ} → SameSign l r m s → l ≡ r → m ≡ s
+sign-none g e = omega (arith, sign-le g (omega (arith, e)), sign-le (sign-other-way g) (omega (arith, e)))
 
 -- so a test says the same of both
 same-ltb : {l r m s : ℕ} → SameSign l r m s → ltb r l ≡ ltb s m
@@ -92,6 +96,11 @@ sign-along a p b l r m s on apart e = at (either-way a p)
 abbrev pub Apart : Point → Point → Type 0
 Apart a p = (a .lat .0 ≡ p .lat .0 → ⊥) ⊎ (a .lon .0 ≡ p .lon .0 → ⊥)
 
+-- either way
+pub apart-back : {a p : Point} → Apart a p → Apart p a
+apart-back (inl apart) = inl (λ e. apart (sym e))
+apart-back (inr apart) = inr (λ e. apart (sym e))
+
 module _ (a p b : Point) (on : OnEdge a p b) where
   -- From a on, the sides of the edge are those of its part to p
   pub same-sign : Apart a p → (q : Point) → SameSign (leftSum a b q) (rightSum a b q) (leftSum a p q) (rightSum a p q)
@@ -105,14 +114,13 @@ module _ (a p b : Point) (on : OnEdge a p b) where
       sign-along (a .lon .0) (p .lon .0) (b .lon .0) _ _ _ _ (on .lon) apart (omega arith)
 
   -- Left of the edge is left of its part, either way
-  same-left : (a .lat .0 ≡ p .lat .0 → ⊥) → (q : Point) → left a b q ≡ left a p q
+  pub same-left : Apart a p → (q : Point) → left a b q ≡ left a p q
   unfolding left
-  same-left apart q = same-ltb (same-sign (inl apart) q)
+  same-left apart q = same-ltb (same-sign apart q)
 
-  same-left-back : (a .lat .0 ≡ p .lat .0 → ⊥) → (q : Point) → left b a q ≡ left p a q
+  pub same-left-back : Apart a p → (q : Point) → left b a q ≡ left p a q
   unfolding left
-  same-left-back apart q =
-      left-back a b q ∙ same-ltb (sign-other-way (same-sign (inl apart) q)) ∙ sym (left-back a p q)
+  same-left-back apart q = left-back a b q ∙ same-ltb (sign-other-way (same-sign apart q)) ∙ sym (left-back a p q)
 
 -- The odd count of an edge is that of the two that a point on it makes
 pub crosses-set : (q a p b : Point) → OnEdge a p b
@@ -137,13 +145,13 @@ crosses-set q a p b on = at (low a) (low p) (low b) refl refl refl
         ≡ differ (i && not j && left a p q || j && not i && left p a q) (j && not k && left p b q || k && not j && left b p q)
     at true true true ea ep eb = refl
     at true true false ea ep eb =
-        ap (λ (x : Bool). x || false) (same-left-back b p a back (λ e. omega (arith, low-of p ep, high-of b eb)) q)
+        ap (λ (x : Bool). x || false) (same-left-back b p a back (inl (λ e. omega (arith, low-of p ep, high-of b eb))) q)
     at true false true ea ep eb = let none : ⊥ = omega (arith, low-of a ea, high-of p ep, low-of b eb, on .lat) in absurd none
     at true false false ea ep eb =
-        ap (λ (x : Bool). x || false) (same-left a p b on (λ e. omega (arith, low-of a ea, high-of p ep)) q)
+        ap (λ (x : Bool). x || false) (same-left a p b on (inl (λ e. omega (arith, low-of a ea, high-of p ep))) q)
         ∙ sym (differ-false (left a p q || false))
     at false true true ea ep eb =
-        same-left-back a p b on (λ e. omega (arith, high-of a ea, low-of p ep)) q ∙ sym (differ-false (left p a q))
+        same-left-back a p b on (inl (λ e. omega (arith, high-of a ea, low-of p ep))) q ∙ sym (differ-false (left p a q))
     at false true false ea ep eb = let none : ⊥ = omega (arith, high-of a ea, low-of p ep, high-of b eb, on .lat) in absurd none
-    at false false true ea ep eb = same-left b p a back (λ e. omega (arith, high-of p ep, low-of b eb)) q
+    at false false true ea ep eb = same-left b p a back (inl (λ e. omega (arith, high-of p ep, low-of b eb))) q
     at false false false ea ep eb = refl
