@@ -10,7 +10,7 @@ use borrow.Author.Tests.{eqb-true, eq-eqb, ne-eqb}
 use Rattle.facts.specs.Tests.{same-truth}
 use Rattle.ground.specs.declared.Point.{Point}
 use Rattle.edge.specs.Edge.{Edge, edge, noLength}
-use Rattle.edge.specs.OnEdgeLaws.{Apart}
+use Rattle.edge.specs.OnEdgeLaws.{Apart, apart-back}
 use Rattle.edge.specs.PartsLaws.{apart-or-one}
 use Rattle.boundary.specs.Boundary.{joined, withLength, edgesOf}
 use Rattle.boundary.specs.Sums.{next}
@@ -19,11 +19,6 @@ use Rattle.boundary.specs.Sums.{next}
 pub data Chain : Point → Point → List Edge → Type 0 where
   ended : {a : Point} → Chain a a []
   link : {a b c : Point} {es : List Edge} → Apart a b → Chain b c es → Chain a c (edge a b ∷ es)
-
--- Points are apart either way round
-pub apart-back : {a b : Point} → Apart a b → Apart b a
-apart-back (inl h) = inl (λ e. h (sym e))
-apart-back (inr h) = inr (λ e. h (sym e))
 
 -- An edge from a point to itself has no length
 no-length : (a : Point) → noLength (edge a a) ≡ true

@@ -1,4 +1,4 @@
--- None of the ground's five changes makes a crossing or cures one. Assumes nothing.
+-- None of the ground's five changes makes a crossing or cures one. Assumes the law of an edge and its two parts, ShareSet.
 use native.Mathlib.Omega.{arith}
 use mathlib.Core.Path.{_≡_, refl, ap, _∙_, sym, subst}
 use mathlib.Core.Logic.{_⊎_, inl, inr}
@@ -16,27 +16,44 @@ use Rattle.crossed.specs.Crossed.{crossed}
 use Rattle.crossed.specs.Around.{closely, crossed-closely}
 use Rattle.crossed.specs.Chains.{Chain, dropped, kept, chain-joined, onward, joined-onward, chain-onward}
 use Rattle.crossed.specs.Chains.{with-length-append, joined-last, edges-back}
-use Rattle.crossed.specs.RingLaws.{PairLaws, closely-next, closely-back, closely-set}
+use Rattle.crossed.specs.RingLaws.{ShareSet, closely-next, closely-back, closely-set}
+
+-- The edges of a ring that have a length meet where they do when it is started at the next edge
+with-length-next : {a b : Point} (es : List Edge) → Chain b a (withLength es)
+    → closely (withLength (edge a b ∷ es)) ≡ closely (withLength es ++ withLength (edge a b ∷ []))
+with-length-next {a} {b} es w = at (apart-or-one a b)
+  where
+    at : Apart a b ⊎ (a ≡ b) → closely (withLength (edge a b ∷ es)) ≡ closely (withLength es ++ withLength (edge a b ∷ []))
+    at (inl h) = ap closely (kept h es) ∙ closely-next h w ∙ sym (ap (λ (ds : List Edge). closely (withLength es ++ ds)) (kept h []))
+    at (inr e) =
+        subst (λ (x : Point). closely (withLength (edge a x ∷ es)) ≡ closely (withLength es ++ withLength (edge a x ∷ []))) e
+        (ap closely
+        (dropped a es ∙ sym (append-nil (withLength es)) ∙ sym (ap (λ (ds : List Edge). withLength es ++ ds) (dropped a []))))
+
+-- A boundary is crossed where it is when started at the next corner
+crossed-next : (c : Point) (cs : List Point) → crossed (c ∷ cs) ≡ crossed (cs ++ (c ∷ []))
+unfolding edgesOf
+crossed-next c [] = refl
+crossed-next c (d ∷ ds) =
+    crossed-closely (c ∷ d ∷ ds) ∙ with-length-next (joined c d ds) (chain-joined c d ds)
+    ∙ sym (ap closely (ap withLength (joined-last d d c ds) ∙ with-length-append (joined c d ds) (edge c d ∷ [])))
+    ∙ sym (crossed-closely (d ∷ ds ++ (c ∷ [])))
+
+-- and where it is when turned
+crossed-turned : (cs : List Point) → crossed cs ≡ crossed (reverse cs)
+unfolding edgesOf
+crossed-turned [] = refl
+crossed-turned (c ∷ cs) =
+    crossed-closely (c ∷ cs) ∙ sym (closely-back (chain-joined c c cs) refl) ∙ sym (ap closely (edges-back c cs))
+    ∙ sym (crossed-closely (c ∷ reverse cs)) ∙ crossed-next c (reverse cs) ∙ ap crossed (sym (reverse-cons c cs))
 
 -- Where a point on an edge is apart from its start, so is its end
 apart-whole : {a p b : Point} → OnEdge a p b → Apart a p → Apart a b
 apart-whole on (inl h) = inl (λ e. h (omega (arith, on .lat)))
 apart-whole on (inr h) = inr (λ e. h (omega (arith, on .lon)))
 
-module _ (laws : PairLaws) where
-  -- The edges of a ring that have a length meet where they do when it is started at the next edge
-  with-length-next : {a b : Point} (es : List Edge) → Chain b a (withLength es)
-      → closely (withLength (edge a b ∷ es)) ≡ closely (withLength es ++ withLength (edge a b ∷ []))
-  with-length-next {a} {b} es w = at (apart-or-one a b)
-    where
-      at : Apart a b ⊎ (a ≡ b) → closely (withLength (edge a b ∷ es)) ≡ closely (withLength es ++ withLength (edge a b ∷ []))
-      at (inl h) = ap closely (kept h es) ∙ closely-next laws h w ∙ sym (ap (λ (ds : List Edge). closely (withLength es ++ ds)) (kept h []))
-      at (inr e) =
-          subst (λ (x : Point). closely (withLength (edge a x ∷ es)) ≡ closely (withLength es ++ withLength (edge a x ∷ []))) e
-          (ap closely
-          (dropped a es ∙ sym (append-nil (withLength es)) ∙ sym (ap (λ (ds : List Edge). withLength es ++ ds) (dropped a []))))
-
-  -- and when a corner is set on its first edge
+module _ (laws : ShareSet) where
+  -- The edges of a ring that have a length meet where they do when a corner is set on its first edge
   with-length-set : {a p b : Point} (es : List Edge) → OnEdge a p b → Chain b a (withLength es)
       → closely (withLength (edge a b ∷ es)) ≡ closely (withLength (edge a p ∷ edge p b ∷ es))
   with-length-set {a} {p} {b} es on w = at (apart-or-one a p) (apart-or-one p b)
@@ -53,24 +70,7 @@ module _ (laws : PairLaws) where
           ap closely (kept (apart-whole on h) es) ∙ closely-set laws on h k w
           ∙ sym (ap closely (kept h (edge p b ∷ es) ∙ ap (λ (ds : List Edge). edge a p ∷ ds) (kept k es)))
 
-  -- A boundary is crossed where it is when started at the next corner
-  crossed-next : (c : Point) (cs : List Point) → crossed (c ∷ cs) ≡ crossed (cs ++ (c ∷ []))
-  unfolding edgesOf
-  crossed-next c [] = refl
-  crossed-next c (d ∷ ds) =
-      crossed-closely (c ∷ d ∷ ds) ∙ with-length-next (joined c d ds) (chain-joined c d ds)
-      ∙ sym (ap closely (ap withLength (joined-last d d c ds) ∙ with-length-append (joined c d ds) (edge c d ∷ [])))
-      ∙ sym (crossed-closely (d ∷ ds ++ (c ∷ [])))
-
-  -- when turned
-  crossed-turned : (cs : List Point) → crossed cs ≡ crossed (reverse cs)
-  unfolding edgesOf
-  crossed-turned [] = refl
-  crossed-turned (c ∷ cs) =
-      crossed-closely (c ∷ cs) ∙ sym (closely-back laws (chain-joined c c cs) refl) ∙ sym (ap closely (edges-back c cs))
-      ∙ sym (crossed-closely (c ∷ reverse cs)) ∙ crossed-next c (reverse cs) ∙ ap crossed (sym (reverse-cons c cs))
-
-  -- and when a corner is set on the edge from the first
+  -- A boundary is crossed where it is when a corner is set on the edge from the first
   crossed-set : (a p : Point) (cs : List Point) → OnEdge a p (next a cs) → crossed (a ∷ cs) ≡ crossed (a ∷ p ∷ cs)
   unfolding edgesOf
   crossed-set a p cs on =
