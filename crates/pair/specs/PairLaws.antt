@@ -177,7 +177,7 @@ module _ (e f : Edge) where
   unshared-so (asideBy h) = fails-right (overlapping e f && not (asideOf e f)) (ap not h)
 
 -- The order of the edges does not matter
-beside-comm : {a b c d : ℕ} → Beside a b c d → Beside c d a b
+pub beside-comm : {a b c d : ℕ} → Beside a b c d → Beside c d a b
 beside-comm (below h) = above h
 beside-comm (above h) = below h
 

@@ -1,7 +1,7 @@
 -- The two parts of an edge at a point on it: the edge shares a point with another where one of its parts does. Assumes nothing.
-use Prim.Native.Nat.{ℕ, suc, _+_, _*_, _≤_, _<_, min, max}
+use Prim.Native.Nat.{ℕ, _+_, _*_, _≤_, _<_, min, max}
 use native.Mathlib.Omega.{arith}
-use mathlib.Core.Path.{_≡_, ap, ap₂, sym, _∙_}
+use mathlib.Core.Path.{_≡_, refl, ap, ap₂, sym, _∙_}
 use mathlib.Core.Logic.{_⊎_, inl, inr}
 use mathlib.Core.Bool.{true, false, _&&_, _||_}
 use Rattle.facts.specs.Tests.{neither, none-of}
@@ -12,8 +12,34 @@ use Rattle.edge.specs.Edge.{Edge, edge, Between, OnEdge}
 use Rattle.edge.specs.OnEdgeLaws.{on-other-way, Apart, apart-back, same-left, same-left-back}
 use Rattle.pair.specs.Pair.{asideOf, sharePoint}
 use Rattle.pair.specs.PairLaws.{
-  same-failure, Way, up, across, along, between-along, Beside, below, above, Clear, StrictlyLeft, Sided, onLeft, onRight, sided, sided-so,
-  Unshared, clear, aside, asideBy, unshared, unshared-so, beside-back, clear-back, aside-back, aside-ends, unshared-back
+  same-failure,
+  Way,
+  up,
+  across,
+  along,
+  between-along,
+  Beside,
+  below,
+  above,
+  Clear,
+  StrictlyLeft,
+  Sided,
+  onLeft,
+  onRight,
+  sided,
+  sided-so,
+  Unshared,
+  clear,
+  aside,
+  asideBy,
+  unshared,
+  unshared-so,
+  beside-comm,
+  beside-back,
+  clear-back,
+  aside-back,
+  aside-ends,
+  unshared-back,
 }
 
 -- The line of a part is the line of the whole
@@ -22,6 +48,9 @@ unfolding asideOf
 aside-part {a} {p} {b} on apart f =
     ap₂ _||_ (ap₂ _&&_ (same-left a p b on apart (f .start)) (same-left a p b on apart (f .end)))
     (ap₂ _&&_ (same-left-back a p b on apart (f .start)) (same-left-back a p b on apart (f .end)))
+
+aside-rest : {a p b : Point} → OnEdge a p b → Apart p b → (f : Edge) → asideOf (edge a b) f ≡ asideOf (edge p b) f
+aside-rest {a} {p} {b} on apart f = aside-back a b f ∙ aside-part (on-other-way on) (apart-back apart) f ∙ aside-back b p f
 
 -- As p lies to a and b, so y lies to x and z
 record Likewise (a p b x y z : ℕ) : Type 0 where
@@ -223,3 +252,58 @@ module _ (p b c d : Point) where
           (sided-so (edge p b) (edge c d)
           (so l (either-way (leftSum p b c) (rightSum p b c)) (either-way (rightSum p b d) (leftSum p b d))))
       at (inr l) = inl l
+
+-- One part on one side of another edge's line, and the other apart from that edge: the whole shares no point with it
+side-clear : {a p b : Point} {f : Edge} → OnEdge a p b → Apart p b → Sided f (edge a p) → Clear (edge p b) f → Unshared (edge a b) f
+side-clear {a} {p} {b} {f} on apart s k = at s
+  where
+    ends : Clear (edge p b) (edge (f .end) (f .start))
+    ends = record { way = k .way; beside = beside-comm (beside-back (beside-comm (k .beside))) }
+
+    so : (c d : Point) → asideOf (edge p b) f ≡ asideOf (edge p b) (edge c d) → (StrictlyLeft c d b → Sided f (edge a b))
+        → StrictlyLeft c d b ⊎ (asideOf (edge p b) (edge c d) ≡ true) → Unshared (edge a b) f
+    so c d e side (inl m) = asideBy (sided-so f (edge a b) (side m))
+    so c d e side (inr m) = aside (aside-rest on apart f ∙ e ∙ m)
+
+    at : Sided f (edge a p) → Unshared (edge a b) f
+    at (onLeft h l) = so (f .start) (f .end) refl (onLeft h) (crossing p b (f .start) (f .end) l k)
+    at (onRight h l) =
+        so (f .end) (f .start) (aside-ends (f .start) (f .end) (edge p b)) (onRight h) (crossing p b (f .end) (f .start) l ends)
+
+-- Two parts each on one side of another edge's line are on the same side of it
+side-both : {a p b : Point} {f : Edge} → Sided f (edge a p) → Sided f (edge p b) → Sided f (edge a b)
+side-both (onLeft h k) (onLeft l m) = onLeft h m
+side-both (onLeft h k) (onRight l m) = let none : ⊥ = omega arith in absurd none
+side-both (onRight h k) (onLeft l m) = let none : ⊥ = omega arith in absurd none
+side-both (onRight h k) (onRight l m) = onRight h m
+
+-- Where neither part of an edge shares a point with another, nor does the edge
+whole-unshared : {a p b : Point} {f : Edge} → OnEdge a p b → Apart a p → Apart p b → Unshared (edge a p) f → Unshared (edge p b) f
+    → Unshared (edge a b) f
+whole-unshared {a} {p} {b} {f} on ap pb u v = at u v
+  where
+    at : Unshared (edge a p) f → Unshared (edge p b) f → Unshared (edge a b) f
+    at (aside h) v = aside (aside-part on ap f ∙ h)
+    at (clear h) (aside k) = aside (aside-rest on pb f ∙ k)
+    at (asideBy h) (aside k) = aside (aside-rest on pb f ∙ k)
+    at (clear h) (clear k) = clear-both on h k
+    at (clear h) (asideBy k) =
+        unshared-back (side-clear (on-other-way on) (apart-back ap) (sided f (edge b p) (sym (aside-ends p b f) ∙ k)) (clear-back h))
+    at (asideBy h) (clear k) = side-clear on pb (sided f (edge a p) h) k
+    at (asideBy h) (asideBy k) = asideBy (sided-so f (edge a b) (side-both (sided f (edge a p) h) (sided f (edge p b) k)))
+
+-- An edge shares a point with another where one of the two that a point on it makes does
+pub share-set : {a p b : Point} → OnEdge a p b → Apart a p → Apart p b → (f : Edge)
+    → sharePoint (edge a b) f ≡ (sharePoint (edge a p) f || sharePoint (edge p b) f)
+share-set {a} {p} {b} on ap pb f = same-failure parts whole
+  where
+    parts : sharePoint (edge a b) f ≡ false → (sharePoint (edge a p) f || sharePoint (edge p b) f) ≡ false
+    parts t =
+        let u = unshared (edge a b) f t in
+        none-of (unshared-so (edge a p) f (part-unshared on ap u))
+        (unshared-so (edge p b) f (unshared-back (part-unshared (on-other-way on) (apart-back pb) (unshared-back u))))
+
+    whole : (sharePoint (edge a p) f || sharePoint (edge p b) f) ≡ false → sharePoint (edge a b) f ≡ false
+    whole t =
+        let ts = neither (sharePoint (edge a p) f) (sharePoint (edge p b) f) t in
+        unshared-so (edge a b) f (whole-unshared on ap pb (unshared (edge a p) f (ts .0)) (unshared (edge p b) f (ts .1)))
