@@ -1,3 +1,4 @@
 pub mod Pair
 pub mod PairLaws
 pub mod MoreLaws
+pub mod ShareLaws

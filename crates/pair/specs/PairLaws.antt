@@ -177,7 +177,7 @@ module _ (e f : Edge) where
   unshared-so (asideBy h) = fails-right (overlapping e f && not (asideOf e f)) (ap not h)
 
 -- The order of the edges does not matter
-beside-comm : {a b c d : ℕ} → Beside a b c d → Beside c d a b
+pub beside-comm : {a b c d : ℕ} → Beside a b c d → Beside c d a b
 beside-comm (below h) = above h
 beside-comm (above h) = below h
 
@@ -199,7 +199,7 @@ pub share-comm : (e f : Edge) → sharePoint e f ≡ sharePoint f e
 share-comm e f = same-failure (λ t. unshared-so f e (unshared-comm (unshared e f t))) (λ t. unshared-so e f (unshared-comm (unshared f e t)))
 
 -- Nor does the order of an edge's ends
-beside-back : {a b c d : ℕ} → Beside a b c d → Beside b a c d
+pub beside-back : {a b c d : ℕ} → Beside a b c d → Beside b a c d
 beside-back (below h) = below (omega (arith, h))
 beside-back (above h) = above (omega (arith, h))
 
@@ -211,7 +211,7 @@ pub aside-back : (a b : Point) (f : Edge) → asideOf (edge a b) f ≡ asideOf (
 unfolding asideOf
 aside-back a b f = or-comm (left a b (f .start) && left a b (f .end)) (left b a (f .start) && left b a (f .end))
 
-aside-ends : (a b : Point) (f : Edge) → asideOf f (edge a b) ≡ asideOf f (edge b a)
+pub aside-ends : (a b : Point) (f : Edge) → asideOf f (edge a b) ≡ asideOf f (edge b a)
 unfolding asideOf
 aside-ends a b f = ap₂ _||_ (one (f .start) (f .end)) (one (f .end) (f .start))
   where
