@@ -25,7 +25,7 @@ no-length : (a : Point) → noLength (edge a a) ≡ true
 no-length a = ap₂ _&&_ (eq-eqb (a .lat .0) (a .lat .0) refl) (eq-eqb (a .lon .0) (a .lon .0) refl)
 
 -- An edge between points that are apart has one
-pub has-length : {a b : Point} → Apart a b → noLength (edge a b) ≡ false
+has-length : {a b : Point} → Apart a b → noLength (edge a b) ≡ false
 has-length {a} {b} (inl h) = ap (λ (t : Bool). t && eqb (a .lon .0) (b .lon .0)) (ne-eqb (a .lat .0) (b .lat .0) h)
 has-length {a} {b} (inr h) =
     ap (λ (t : Bool). eqb (a .lat .0) (b .lat .0) && t) (ne-eqb (a .lon .0) (b .lon .0) h) ∙ and-false (eqb (a .lat .0) (b .lat .0))

@@ -1,4 +1,4 @@
--- None of the ground's five changes makes a crossing or cures one. Assumes the law of an edge and its two parts, ShareSet.
+-- None of the ground's five changes makes a crossing or cures one. Assumes nothing.
 use native.Mathlib.Omega.{arith}
 use mathlib.Core.Path.{_≡_, refl, ap, _∙_, sym, subst}
 use mathlib.Core.Logic.{_⊎_, inl, inr}
@@ -16,7 +16,7 @@ use Rattle.crossed.specs.Crossed.{crossed}
 use Rattle.crossed.specs.Around.{closely, crossed-closely}
 use Rattle.crossed.specs.Chains.{Chain, dropped, kept, chain-joined, onward, joined-onward, chain-onward}
 use Rattle.crossed.specs.Chains.{with-length-append, joined-last, edges-back}
-use Rattle.crossed.specs.RingLaws.{ShareSet, closely-next, closely-back, closely-set}
+use Rattle.crossed.specs.RingLaws.{closely-next, closely-back, closely-set}
 
 -- The edges of a ring that have a length meet where they do when it is started at the next edge
 with-length-next : {a b : Point} (es : List Edge) → Chain b a (withLength es)
@@ -52,33 +52,32 @@ apart-whole : {a p b : Point} → OnEdge a p b → Apart a p → Apart a b
 apart-whole on (inl h) = inl (λ e. h (omega (arith, on .lat)))
 apart-whole on (inr h) = inr (λ e. h (omega (arith, on .lon)))
 
-module _ (laws : ShareSet) where
-  -- The edges of a ring that have a length meet where they do when a corner is set on its first edge
-  with-length-set : {a p b : Point} (es : List Edge) → OnEdge a p b → Chain b a (withLength es)
-      → closely (withLength (edge a b ∷ es)) ≡ closely (withLength (edge a p ∷ edge p b ∷ es))
-  with-length-set {a} {p} {b} es on w = at (apart-or-one a p) (apart-or-one p b)
-    where
-      Same : Point → Type 0
-      Same x = closely (withLength (edge a b ∷ es)) ≡ closely (withLength (edge a x ∷ edge x b ∷ es))
+-- The edges of a ring that have a length meet where they do when a corner is set on its first edge
+with-length-set : {a p b : Point} (es : List Edge) → OnEdge a p b → Chain b a (withLength es)
+    → closely (withLength (edge a b ∷ es)) ≡ closely (withLength (edge a p ∷ edge p b ∷ es))
+with-length-set {a} {p} {b} es on w = at (apart-or-one a p) (apart-or-one p b)
+  where
+    Same : Point → Type 0
+    Same x = closely (withLength (edge a b ∷ es)) ≡ closely (withLength (edge a x ∷ edge x b ∷ es))
 
-      at : Apart a p ⊎ (a ≡ p) → Apart p b ⊎ (p ≡ b) → Same p
-      at (inr e) k = subst Same e (sym (ap closely (dropped a (edge a b ∷ es))))
-      at (inl h) (inr e) =
-          subst Same (sym e)
-          (sym (ap (λ (ds : List Edge). closely (cond (noLength (edge a b)) ds (edge a b ∷ ds))) (dropped b es)))
-      at (inl h) (inl k) =
-          ap closely (kept (apart-whole on h) es) ∙ closely-set laws on h k w
-          ∙ sym (ap closely (kept h (edge p b ∷ es) ∙ ap (λ (ds : List Edge). edge a p ∷ ds) (kept k es)))
+    at : Apart a p ⊎ (a ≡ p) → Apart p b ⊎ (p ≡ b) → Same p
+    at (inr e) k = subst Same e (sym (ap closely (dropped a (edge a b ∷ es))))
+    at (inl h) (inr e) =
+        subst Same (sym e)
+        (sym (ap (λ (ds : List Edge). closely (cond (noLength (edge a b)) ds (edge a b ∷ ds))) (dropped b es)))
+    at (inl h) (inl k) =
+        ap closely (kept (apart-whole on h) es) ∙ closely-set on h k w
+        ∙ sym (ap closely (kept h (edge p b ∷ es) ∙ ap (λ (ds : List Edge). edge a p ∷ ds) (kept k es)))
 
-  -- A boundary is crossed where it is when a corner is set on the edge from the first
-  crossed-set : (a p : Point) (cs : List Point) → OnEdge a p (next a cs) → crossed (a ∷ cs) ≡ crossed (a ∷ p ∷ cs)
-  unfolding edgesOf
-  crossed-set a p cs on =
-      crossed-closely (a ∷ cs) ∙ ap (λ (es : List Edge). closely (withLength es)) (joined-onward a a cs)
-      ∙ with-length-set (onward a cs) on (chain-onward a cs)
-      ∙ sym (ap (λ (es : List Edge). closely (withLength (edge a p ∷ es))) (joined-onward a p cs))
-      ∙ sym (crossed-closely (a ∷ p ∷ cs))
+-- A boundary is crossed where it is when a corner is set on the edge from the first
+crossed-set : (a p : Point) (cs : List Point) → OnEdge a p (next a cs) → crossed (a ∷ cs) ≡ crossed (a ∷ p ∷ cs)
+unfolding edgesOf
+crossed-set a p cs on =
+    crossed-closely (a ∷ cs) ∙ ap (λ (es : List Edge). closely (withLength es)) (joined-onward a a cs)
+    ∙ with-length-set (onward a cs) on (chain-onward a cs)
+    ∙ sym (ap (λ (es : List Edge). closely (withLength (edge a p ∷ es))) (joined-onward a p cs))
+    ∙ sym (crossed-closely (a ∷ p ∷ cs))
 
-  -- A boundary is crossed for all lists of corners of one ground, or for none
-  pub crossed-same : {cs ds : List Point} → SameGround cs ds → crossed cs ≡ crossed ds
-  crossed-same = same-ground crossed (record { started = crossed-next; turned = crossed-turned; set = crossed-set })
+-- A boundary is crossed for all lists of corners of one ground, or for none
+pub crossed-same : {cs ds : List Point} → SameGround cs ds → crossed cs ≡ crossed ds
+crossed-same = same-ground crossed (record { started = crossed-next; turned = crossed-turned; set = crossed-set })

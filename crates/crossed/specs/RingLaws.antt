@@ -1,16 +1,16 @@
--- Edges of a ring meet where they do when it is started at the next edge, turned, or has a corner set on an edge. Assumes the law of an edge
--- and its two parts, ShareSet, for the last.
+-- Edges of a ring meet where they do when it is started at the next edge, turned, or has a corner set on an edge. Assumes nothing.
 use mathlib.Core.Path.{_≡_, refl, ap, ap₂, _∙_, sym, subst}
 use mathlib.Core.Bool.{Bool, true, false, _||_, or-assoc, or-comm, or-false, or-true}
 use mathlib.Core.List.{List, [], _∷_, _++_}
 use Rattle.ground.specs.declared.Point.{Point}
-use Rattle.edge.specs.Edge.{Edge, edge, noLength, OnEdge}
+use Rattle.edge.specs.Edge.{Edge, edge, OnEdge}
 use Rattle.edge.specs.OnEdgeLaws.{on-start, Apart, apart-back}
 use Rattle.pair.specs.Pair.{sharePoint, shareMore}
 use Rattle.pair.specs.PairLaws.{share-comm, share-back}
+use Rattle.pair.specs.ShareLaws.{share-set}
 use Rattle.pair.specs.MoreLaws.{more-back, more-none, more-returns, more-after, more-before}
 use Rattle.crossed.specs.Around.{shares, ahead, behind, openly, returning, closely}
-use Rattle.crossed.specs.Chains.{Chain, ended, link, has-length, turn, back, chain-back, back-back}
+use Rattle.crossed.specs.Chains.{Chain, ended, link, turn, back, chain-back, back-back}
 
 -- Of four tests, the middle two may change places
 or-exchange : (a b c d : Bool) → ((a || b) || (c || d)) ≡ ((a || c) || (b || d))
@@ -79,7 +79,7 @@ shares-back e [] = refl
 shares-back e (f ∷ fs) =
     shares-last (turn e) (back fs) (turn f) ∙ ap₂ _||_ (shares-back e fs) (share-turn e f) ∙ or-comm (shares e fs) (sharePoint e f)
 
--- On a way turned, an edge has behind it what it had ahead
+-- On a chain turned, an edge has behind it what it had ahead
 behind-back : (a : Point) {b c : Point} {es : List Edge} → Chain b c es → behind (edge b a) (back es) ≡ ahead (edge a b) es
 behind-back a ended = refl
 behind-back a {b} (link {b = d} {es = es} h w) =
@@ -110,39 +110,33 @@ closely-back (link {b = b} {es = es} h w) e =
     let ring = subst (λ (x : Point). Chain b x es) (sym e) w in
     sym (closely-next (apart-back h) (chain-back ring)) ∙ ap₂ _||_ (returning-back h ring) (openly-back w)
 
--- The law of an edge and its two parts
-pub record ShareSet : Type 0 where
-  share-set : {a p b : Point} → OnEdge a p b → Apart a p → Apart p b → (f : Edge) → noLength f ≡ false
-      → sharePoint (edge a b) f ≡ (sharePoint (edge a p) f || sharePoint (edge p b) f)
+-- An edge meets one behind it where its part from the start does, or its other part shares a point with one
+behind-set : {a p b c : Point} {es : List Edge} → OnEdge a p b → Apart a p → Apart p b → Chain c a es
+    → behind (edge a b) es ≡ (behind (edge a p) es || shares (edge p b) es)
+behind-set on h k ended = refl
+behind-set {a} {p} {b} on h k (link {a = z} l ended) =
+    more-before on h z
+    ∙ ap (λ (t : Bool). shareMore (edge z a) (edge a p) || t) (sym (or-false (sharePoint (edge p b) (edge z a))))
+behind-set {a} {p} {b} on h k (link {a = y} {b = z} l (link {b = x} {es = es} m w)) =
+    ap₂ _||_ (share-set on h k (edge y z)) (behind-set on h k (link m w))
+    ∙ or-exchange (sharePoint (edge a p) (edge y z)) (sharePoint (edge p b) (edge y z))
+    (behind (edge a p) (edge z x ∷ es)) (shares (edge p b) (edge z x ∷ es))
 
-module _ (laws : ShareSet) where
-  -- An edge meets one behind it where its part from the start does, or its other part shares a point with one
-  behind-set : {a p b c : Point} {es : List Edge} → OnEdge a p b → Apart a p → Apart p b → Chain c a es
-      → behind (edge a b) es ≡ (behind (edge a p) es || shares (edge p b) es)
-  behind-set on h k ended = refl
-  behind-set {a} {p} {b} on h k (link {a = z} l ended) =
-      more-before on h z
-      ∙ ap (λ (t : Bool). shareMore (edge z a) (edge a p) || t) (sym (or-false (sharePoint (edge p b) (edge z a))))
-  behind-set {a} {p} {b} on h k (link {a = y} {b = z} l (link {b = x} {es = es} m w)) =
-      ap₂ _||_ (laws .share-set on h k (edge y z) (has-length l)) (behind-set on h k (link m w))
-      ∙ or-exchange (sharePoint (edge a p) (edge y z)) (sharePoint (edge p b) (edge y z))
-      (behind (edge a p) (edge z x ∷ es)) (shares (edge p b) (edge z x ∷ es))
-
-  -- Two edges of a ring meet where they do when a corner is set on its first edge
-  pub closely-set : {a p b : Point} {es : List Edge} → OnEdge a p b → Apart a p → Apart p b → Chain b a es
-      → closely (edge a b ∷ es) ≡ closely (edge a p ∷ edge p b ∷ es)
-  closely-set on h k ended = sym (ap (λ (t : Bool). t || false || false) (more-none on))
-  closely-set {a} {p} {b} on h k (link l ended) =
-      let others = shareMore (edge a p) (edge p b) || shareMore (edge b a) (edge a p) in
-      ap (λ (t : Bool). t || false || false) (there-back (apart-back l)) ∙ sym (or-true others)
-      ∙ sym (ap (λ (t : Bool). others || (t || false || false)) (more-returns on k))
-  closely-set {a} {p} {b} on h k (link {b = c} l (link {b = d} {es = es} m w)) =
-      let rest = edge c d ∷ es in
-      let others = openly (edge b c ∷ rest) in
-      let start = sharePoint (edge a p) (edge b c) || behind (edge a p) rest in
-      let onto = ahead (edge p b) (edge b c ∷ rest) in
-      ap (λ (t : Bool). t || others)
-      (ap₂ _||_ (more-after on k c) (behind-set on h k (link m w))
-      ∙ or-exchange (sharePoint (edge a p) (edge b c)) (shareMore (edge p b) (edge b c)) (behind (edge a p) rest) (shares (edge p b) rest))
-      ∙ or-assoc start onto others
-      ∙ sym (ap (λ (t : Bool). (t || start) || (onto || others)) (more-none on))
+-- Two edges of a ring meet where they do when a corner is set on its first edge
+pub closely-set : {a p b : Point} {es : List Edge} → OnEdge a p b → Apart a p → Apart p b → Chain b a es
+    → closely (edge a b ∷ es) ≡ closely (edge a p ∷ edge p b ∷ es)
+closely-set on h k ended = sym (ap (λ (t : Bool). t || false || false) (more-none on))
+closely-set {a} {p} {b} on h k (link l ended) =
+    let others = shareMore (edge a p) (edge p b) || shareMore (edge b a) (edge a p) in
+    ap (λ (t : Bool). t || false || false) (there-back (apart-back l)) ∙ sym (or-true others)
+    ∙ sym (ap (λ (t : Bool). others || (t || false || false)) (more-returns on k))
+closely-set {a} {p} {b} on h k (link {b = c} l (link {b = d} {es = es} m w)) =
+    let rest = edge c d ∷ es in
+    let others = openly (edge b c ∷ rest) in
+    let start = sharePoint (edge a p) (edge b c) || behind (edge a p) rest in
+    let onto = ahead (edge p b) (edge b c ∷ rest) in
+    ap (λ (t : Bool). t || others)
+    (ap₂ _||_ (more-after on k c) (behind-set on h k (link m w))
+    ∙ or-exchange (sharePoint (edge a p) (edge b c)) (shareMore (edge p b) (edge b c)) (behind (edge a p) rest) (shares (edge p b) rest))
+    ∙ or-assoc start onto others
+    ∙ sym (ap (λ (t : Bool). (t || start) || (onto || others)) (more-none on))
