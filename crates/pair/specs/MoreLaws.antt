@@ -1,6 +1,6 @@
 -- The laws of two edges of which one follows the other: when they share more than their corner, either way round, and what a point on one
 -- of them changes. Assumes nothing.
-use Prim.Native.Nat.{ℕ, _+_, _*_, _<_}
+use Prim.Native.Nat.{ℕ, _+_, _*_, _≤_, _<_}
 use native.Mathlib.Omega.{arith}
 use mathlib.Core.Path.{_≡_, refl, ap, ap₂, sym, _∙_}
 use mathlib.Core.Logic.{_⊎_, inl, inr}
@@ -8,13 +8,14 @@ use mathlib.Core.Bool.{Bool, true, false, _&&_, _||_, or-comm, true≢false}
 use lib.Dec.{ltb}
 use borrow.Author.Tests.{leb-true, le-leb, ltb-true, lt-ltb, eq-eqb}
 use Rattle.facts.specs.Tests.{both, either, either-left, either-right, same-truth}
-use Rattle.facts.specs.Numbers.{Compared, less, same, more, compared, product-lt}
+use Rattle.facts.specs.Numbers.{Compared, less, same, more, compared, product-lt, either-way}
 use Rattle.ground.specs.declared.Point.{Point}
 use Rattle.side.specs.Side.{leftSum, rightSum, leftOrOn}
 use Rattle.edge.specs.Edge.{edge, noLength, Between, OnEdge}
 use Rattle.edge.specs.OnEdgeLaws.{on-other-way, SameSign, sign-other-way, sign-back, sign-lt, sign-none, Apart, apart-back, same-sign}
 use Rattle.pair.specs.Pair.{sharePoint, onOneLine, bothBeside, onSameSide, shareMore}
-use Rattle.pair.specs.PairLaws.{Way, up, across, along, between-along, Beside, below, above, Unshared, clear, asideBy, onLeft, onRight, sided-so, unshared-so, share-comm, share-back}
+use Rattle.pair.specs.PairLaws.{Way, up, across, along, either-along, between-along, Beside, below, above, onLeft, onRight, sided-so}
+use Rattle.pair.specs.PairLaws.{Unshared, clear, asideBy, unshared-so, share-comm, share-back}
 
 -- Two numbers lie on the same side of a third
 data Together (a b c : ℕ) : Type 0 where
@@ -53,14 +54,10 @@ module _ (a b c : Point) where
       let ls = both (leftOrOn a b c) (leftOrOn b a c) (both (noLength (edge b b)) (onOneLine a b c) (ts .0) .1) in
       let h = leb-true (rightSum a b c) (leftSum a b c) (ls .0) in
       let k = leb-true (rightSum b a c) (leftSum b a c) (ls .1) in
-      at (omega (arith, h, k)) (either (sameSide up) (sameSide across) (ts .1))
+      either-along (λ (w : Way). sameSide w ≡ true) (one (omega (arith, h, k))) (either (sameSide up) (sameSide across) (ts .1))
     where
       one : leftSum a b c ≡ rightSum a b c → (w : Way) → sameSide w ≡ true → More a b c
       one e w h = record { line = e; way = w; beside = together (along w a) (along w b) (along w c) h }
-
-      at : leftSum a b c ≡ rightSum a b c → (sameSide up ≡ true) ⊎ (sameSide across ≡ true) → More a b c
-      at e (inl h) = one e up h
-      at e (inr h) = one e across h
 
   -- and the other way
   more-so : More a b c → shareMore (edge a b) (edge b c) ≡ true
@@ -117,16 +114,12 @@ returning a p b h apart = at (compared p b)
     at (more k) = over k (omega arith)
 
 pub more-returns : {a p b : Point} → OnEdge a p b → Apart p b → shareMore (edge p b) (edge b a) ≡ true
-more-returns {a} {p} {b} on apart = more-so p b a (at apart)
+more-returns {a} {p} {b} on apart = more-so p b a (either-along (λ (w : Way). along w p ≡ along w b → ⊥) one apart)
   where
     one : (w : Way) → (along w p ≡ along w b → ⊥) → More p b a
     one w h =
         let line : leftSum p b a ≡ rightSum p b a = omega (arith, on .line) in
         record { line = line; way = w; beside = returning (along w a) (along w p) (along w b) (between-along w on) h }
-
-    at : Apart p b → More p b a
-    at (inl h) = one up h
-    at (inr h) = one across h
 
 -- A product of two differences is not 0 where neither is
 no-product : (a b c d : ℕ) → (a ≡ b → ⊥) → (c ≡ d → ⊥) → a * d + b * c ≡ a * c + b * d → ⊥
@@ -141,39 +134,36 @@ no-product a b c d h k e = at (compared a b) (compared c d)
     at (more l) (less m) = omega (arith, e, product-lt l m)
     at (more l) (more m) = omega (arith, e, product-lt l m)
 
--- so a point on a line is level with one that it is apart from only where the line is
+-- so a point on an edge is level with an end that it is apart from only where the edge is
 level : (a b p c d q : ℕ) → c * b + d * p + q * a ≡ d * a + q * b + c * p → (a ≡ b → ⊥) → (q ≡ d → ⊥) → p ≡ b → ⊥
 level a b p c d q line h k e =
     let l : c * p ≡ c * b = ap (λ (x : ℕ). c * x) e in
     let m : d * p ≡ d * b = ap (λ (x : ℕ). d * x) e in
     no-product a b q d h k (omega (arith, l, m, line))
 
+not-level : {a p b : Point} → OnEdge a p b → Apart p b → (w : Way) → (along w a ≡ along w b → ⊥) → along w p ≡ along w b → ⊥
+not-level on (inl k) up h e = k e
+not-level {a} {p} {b} on (inr k) up h e =
+    level (a .lat .0) (b .lat .0) (p .lat .0) (a .lon .0) (b .lon .0) (p .lon .0) (omega (arith, on .line)) h k e
+not-level {a} {p} {b} on (inl k) across h e =
+    level (a .lon .0) (b .lon .0) (p .lon .0) (a .lat .0) (b .lat .0) (p .lat .0) (omega (arith, on .line)) h k e
+not-level on (inr k) across h e = k e
+
 -- With p between a and b and apart from b, c is on the same side of b as a is, or a and p are beside b and c
 ray : (a p b c : ℕ) → Between a p b → (p ≡ b → ⊥) → Together a b c ⊎ Beside a p b c
-ray a p b c h apart = at (compared p b) (compared c b)
+ray a p b c h apart = at (compared p b) (either-way b c) (either-way c b)
   where
-    at : Compared p b → Compared c b → Together a b c ⊎ Beside a p b c
-    at (same e) l = absurd (apart e)
-    at (less k) (less l) = inl (under (omega arith) l)
-    at (less k) (same l) = inr (below (omega arith))
-    at (less k) (more l) = inr (below (omega arith))
-    at (more k) (less l) = inr (above (omega arith))
-    at (more k) (same l) = inr (above (omega arith))
-    at (more k) (more l) = inl (over (omega arith) l)
+    at : Compared p b → (b ≤ c) ⊎ (c < b) → (c ≤ b) ⊎ (b < c) → Together a b c ⊎ Beside a p b c
+    at (same e) l m = absurd (apart e)
+    at (less k) (inl l) m = inr (below (omega arith))
+    at (less k) (inr l) m = inl (under (omega arith) l)
+    at (more k) l (inl m) = inr (above (omega arith))
+    at (more k) l (inr m) = inl (over (omega arith) m)
 
 module _ {a p b : Point} (on : OnEdge a p b) (apart : Apart p b) (c : Point) where
   -- The sides of c of the edge are those of its part from p on
   same-side : SameSign (leftSum b a c) (rightSum b a c) (leftSum b p c) (rightSum b p c)
   same-side = same-sign b p a (on-other-way on) (apart-back apart) c
-
-  -- P is level with b only where a is
-  not-level : (w : Way) → Apart p b → (along w a ≡ along w b → ⊥) → along w p ≡ along w b → ⊥
-  not-level up (inl k) h e = k e
-  not-level up (inr k) h e =
-      level (a .lat .0) (b .lat .0) (p .lat .0) (a .lon .0) (b .lon .0) (p .lon .0) (omega (arith, on .line)) h k e
-  not-level across (inl k) h e =
-      level (a .lon .0) (b .lon .0) (p .lon .0) (a .lat .0) (b .lat .0) (p .lat .0) (omega (arith, on .line)) h k e
-  not-level across (inr k) h e = k e
 
   -- What an edge shares with the next one, its part from p on does
   more-part : More a b c → More p b c
@@ -183,8 +173,8 @@ module _ {a p b : Point} (on : OnEdge a p b) (apart : Apart p b) (c : Point) whe
       record { line = line; way = m .way; beside = at (m .way) (m .beside) }
     where
       at : (w : Way) → Together (along w a) (along w b) (along w c) → Together (along w p) (along w b) (along w c)
-      at w (under h k) = let l = not-level w apart (λ e. omega arith) in under (omega (arith, between-along w on)) k
-      at w (over h k) = let l = not-level w apart (λ e. omega arith) in over (omega (arith, between-along w on)) k
+      at w (under h k) = let l = not-level on apart w (λ e. omega arith) in under (omega (arith, between-along w on)) k
+      at w (over h k) = let l = not-level on apart w (λ e. omega arith) in over (omega (arith, between-along w on)) k
 
   -- and what the part shares, the edge does
   more-whole : More p b c → More a b c
@@ -209,12 +199,8 @@ module _ {a p b : Point} (on : OnEdge a p b) (apart : Apart p b) (c : Point) whe
           so (inl k) = inl (record { line = e; way = w; beside = k })
           so (inr k) = inr (clear (record { way = w; beside = k }))
 
-      on-line : leftSum a b c ≡ rightSum a b c → Apart p b → More a b c ⊎ Unshared (edge a p) (edge b c)
-      on-line e (inl h) = one e up h
-      on-line e (inr h) = one e across h
-
       at : Compared (leftSum a b c) (rightSum a b c) → More a b c ⊎ Unshared (edge a p) (edge b c)
-      at (same e) = on-line e apart
+      at (same e) = either-along (λ (w : Way). along w p ≡ along w b → ⊥) (one e) apart
       at (less h) =
           let k : rightSum b p c < leftSum b p c = sign-lt same-side (omega (arith, h)) in
           inr (asideBy (sided-so (edge b c) (edge a p) (onRight (omega (arith, h)) (omega (arith, k)))))

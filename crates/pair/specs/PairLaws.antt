@@ -45,6 +45,11 @@ abbrev pub along : Way → Point → ℕ
 along up p = p .lat .0
 along across p = p .lon .0
 
+-- What follows from a fact in each of them follows where it holds in one
+pub either-along : {A : Type 0} (P : Way → Type 0) → ((w : Way) → P w → A) → P up ⊎ P across → A
+either-along P f (inl h) = f up h
+either-along P f (inr h) = f across h
+
 -- A point on an edge is between its ends in each of them
 pub between-along : {a p b : Point} (w : Way) → OnEdge a p b → Between (along w a) (along w p) (along w b)
 between-along up on = on .lat
@@ -76,41 +81,37 @@ pub data Sided (e f : Edge) : Type 0 where
   onRight : StrictlyLeft (e .end) (e .start) (f .start) → StrictlyLeft (e .end) (e .start) (f .end) → Sided e f
 
 module _ (e f : Edge) where
-  -- The two sides
-  abbrev leftBoth : Bool
-  leftBoth = left (e .start) (e .end) (f .start) && left (e .start) (e .end) (f .end)
+  -- The test of a side
+  abbrev leftBoth : Point → Point → Bool
+  leftBoth a b = left a b (f .start) && left a b (f .end)
 
-  abbrev rightBoth : Bool
-  rightBoth = left (e .end) (e .start) (f .start) && left (e .end) (e .start) (f .end)
-
-  -- as the test says
+  -- What the tests say
   pub sided : asideOf e f ≡ true → Sided e f
   unfolding asideOf left
-  sided t = at (either leftBoth rightBoth t)
+  sided t = at (either (leftBoth (e .start) (e .end)) (leftBoth (e .end) (e .start)) t)
     where
-      one : (a b q : Point) → left a b q ≡ true → StrictlyLeft a b q
-      one a b q h = ltb-true (rightSum a b q) (leftSum a b q) h
+      two : (a b : Point) → leftBoth a b ≡ true → StrictlyLeft a b (f .start) × StrictlyLeft a b (f .end)
+      two a b h =
+          let ts = both (left a b (f .start)) (left a b (f .end)) h in
+          let t = ltb-true (rightSum a b (f .start)) (leftSum a b (f .start)) (ts .0) in
+          (t, ltb-true (rightSum a b (f .end)) (leftSum a b (f .end)) (ts .1))
 
-      at : (leftBoth ≡ true) ⊎ (rightBoth ≡ true) → Sided e f
-      at (inl h) =
-          let ts = both (left (e .start) (e .end) (f .start)) (left (e .start) (e .end) (f .end)) h in
-          onLeft (one (e .start) (e .end) (f .start) (ts .0)) (one (e .start) (e .end) (f .end) (ts .1))
-      at (inr h) =
-          let ts = both (left (e .end) (e .start) (f .start)) (left (e .end) (e .start) (f .end)) h in
-          onRight (one (e .end) (e .start) (f .start) (ts .0)) (one (e .end) (e .start) (f .end) (ts .1))
+      at : (leftBoth (e .start) (e .end) ≡ true) ⊎ (leftBoth (e .end) (e .start) ≡ true) → Sided e f
+      at (inl h) = let t = two (e .start) (e .end) h in onLeft (t .0) (t .1)
+      at (inr h) = let t = two (e .end) (e .start) h in onRight (t .0) (t .1)
 
   -- and the other way
   pub sided-so : Sided e f → asideOf e f ≡ true
   unfolding asideOf left
   sided-so s = at s
     where
-      two : (a b : Point) → StrictlyLeft a b (f .start) → StrictlyLeft a b (f .end) → (left a b (f .start) && left a b (f .end)) ≡ true
+      two : (a b : Point) → StrictlyLeft a b (f .start) → StrictlyLeft a b (f .end) → leftBoth a b ≡ true
       two a b h k =
           ap₂ _&&_ (lt-ltb (rightSum a b (f .start)) (leftSum a b (f .start)) h) (lt-ltb (rightSum a b (f .end)) (leftSum a b (f .end)) k)
 
-      at : Sided e f → (leftBoth || rightBoth) ≡ true
-      at (onLeft h k) = either-left rightBoth (two (e .start) (e .end) h k)
-      at (onRight h k) = either-right leftBoth (two (e .end) (e .start) h k)
+      at : Sided e f → (leftBoth (e .start) (e .end) || leftBoth (e .end) (e .start)) ≡ true
+      at (onLeft h k) = either-left (leftBoth (e .end) (e .start)) (two (e .start) (e .end) h k)
+      at (onRight h k) = either-right (leftBoth (e .start) (e .end)) (two (e .end) (e .start) h k)
 
 -- Extents that do not overlap lie so
 beside-of : (a b c d : ℕ) → overlap a b c d ≡ false → Beside a b c d
@@ -131,21 +132,17 @@ module _ (e f : Edge) where
   meeting w = overlap (along w (e .start)) (along w (e .end)) (along w (f .start)) (along w (f .end))
 
   -- Edges whose extents do not overlap are apart in a direction
-  pub apart : overlapping e f ≡ false → Clear e f
+  clear-of : overlapping e f ≡ false → Clear e f
   unfolding overlapping
-  apart t = at (one-fails (meeting up) (meeting across) t)
+  clear-of t = either-along (λ (w : Way). meeting w ≡ false) one (one-fails (meeting up) (meeting across) t)
     where
       one : (w : Way) → meeting w ≡ false → Clear e f
       one w h = record { way = w; beside = beside-of (along w (e .start)) (along w (e .end)) (along w (f .start)) (along w (f .end)) h }
 
-      at : (meeting up ≡ false) ⊎ (meeting across ≡ false) → Clear e f
-      at (inl h) = one up h
-      at (inr h) = one across h
-
   -- and the other way
-  apart-so : Clear e f → overlapping e f ≡ false
+  clear-so : Clear e f → overlapping e f ≡ false
   unfolding overlapping
-  apart-so h = at (h .way) (h .beside)
+  clear-so h = at (h .way) (h .beside)
     where
       at : (w : Way) → Beside (along w (e .start)) (along w (e .end)) (along w (f .start)) (along w (f .end)) → overlapping e f ≡ false
       at up k = fails-left (meeting across) (beside-so (e .start .lat .0) (e .end .lat .0) (f .start .lat .0) (f .end .lat .0) k)
@@ -162,7 +159,7 @@ module _ (e f : Edge) where
   unshared t = at (one-fails (overlapping e f && not (asideOf e f)) (not (asideOf f e)) t)
     where
       first : (overlapping e f ≡ false) ⊎ (not (asideOf e f) ≡ false) → Unshared e f
-      first (inl h) = clear (apart h)
+      first (inl h) = clear (clear-of h)
       first (inr h) = aside (not-false (asideOf e f) h)
 
       at : ((overlapping e f && not (asideOf e f)) ≡ false) ⊎ (not (asideOf f e) ≡ false) → Unshared e f
@@ -172,7 +169,7 @@ module _ (e f : Edge) where
   -- and the other way
   pub unshared-so : Unshared e f → sharePoint e f ≡ false
   unfolding sharePoint
-  unshared-so (clear h) = apart-share (apart-so h)
+  unshared-so (clear h) = apart-share (clear-so h)
   unshared-so (aside h) = fails-left (not (asideOf f e)) (fails-right (overlapping e f) (ap not h))
   unshared-so (asideBy h) = fails-right (overlapping e f && not (asideOf e f)) (ap not h)
 
@@ -181,7 +178,7 @@ pub beside-comm : {a b c d : ℕ} → Beside a b c d → Beside c d a b
 beside-comm (below h) = above h
 beside-comm (above h) = below h
 
-pub unshared-comm : {e f : Edge} → Unshared e f → Unshared f e
+unshared-comm : {e f : Edge} → Unshared e f → Unshared f e
 unshared-comm (clear h) = clear (record { way = h .way; beside = beside-comm (h .beside) })
 unshared-comm (aside h) = asideBy h
 unshared-comm (asideBy h) = aside h
@@ -196,7 +193,8 @@ overlapping-comm e f = ap₂ _&&_ (one up) (one across)
         (leb (min (along w (f .start)) (along w (f .end))) (max (along w (e .start)) (along w (e .end))))
 
 pub share-comm : (e f : Edge) → sharePoint e f ≡ sharePoint f e
-share-comm e f = same-failure (λ t. unshared-so f e (unshared-comm (unshared e f t))) (λ t. unshared-so e f (unshared-comm (unshared f e t)))
+share-comm e f =
+    same-failure (λ t. unshared-so f e (unshared-comm (unshared e f t))) (λ t. unshared-so e f (unshared-comm (unshared f e t)))
 
 -- Nor does the order of an edge's ends
 pub beside-back : {a b c d : ℕ} → Beside a b c d → Beside b a c d
@@ -244,5 +242,5 @@ apart-more e f t = at (noLength (edge (e .end) (f .start))) refl
 
     at : (i : Bool) → noLength (edge (e .end) (f .start)) ≡ i
         → (i && onOneLine (e .start) (e .end) (f .end) && onSameSide (e .start) (e .end) (f .end)) ≡ false
-    at true h = absurd (none (apart e f t) (one-point (edge (e .end) (f .start)) h))
+    at true h = absurd (none (clear-of e f t) (one-point (edge (e .end) (f .start)) h))
     at false h = refl

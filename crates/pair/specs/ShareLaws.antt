@@ -11,36 +11,10 @@ use Rattle.side.specs.Side.{leftSum, rightSum}
 use Rattle.edge.specs.Edge.{Edge, edge, Between, OnEdge}
 use Rattle.edge.specs.OnEdgeLaws.{on-other-way, Apart, apart-back, same-left, same-left-back}
 use Rattle.pair.specs.Pair.{asideOf, sharePoint}
-use Rattle.pair.specs.PairLaws.{
-  same-failure,
-  Way,
-  up,
-  across,
-  along,
-  between-along,
-  Beside,
-  below,
-  above,
-  Clear,
-  StrictlyLeft,
-  Sided,
-  onLeft,
-  onRight,
-  sided,
-  sided-so,
-  Unshared,
-  clear,
-  aside,
-  asideBy,
-  unshared,
-  unshared-so,
-  beside-comm,
-  beside-back,
-  clear-back,
-  aside-back,
-  aside-ends,
-  unshared-back,
-}
+use Rattle.pair.specs.PairLaws.{same-failure, Way, up, across, along, either-along, between-along}
+use Rattle.pair.specs.PairLaws.{Beside, below, above, beside-comm, beside-back, Clear, clear-back}
+use Rattle.pair.specs.PairLaws.{StrictlyLeft, Sided, onLeft, onRight, sided, sided-so, aside-back, aside-ends}
+use Rattle.pair.specs.PairLaws.{Unshared, clear, aside, asideBy, unshared, unshared-so, unshared-back}
 
 -- The line of a part is the line of the whole
 aside-part : {a p b : Point} → OnEdge a p b → Apart a p → (f : Edge) → asideOf (edge a b) f ≡ asideOf (edge a p) f
@@ -56,15 +30,15 @@ aside-rest {a} {p} {b} on apart f = aside-back a b f ∙ aside-part (on-other-wa
 record Likewise (a p b x y z : ℕ) : Type 0 where
   equal : b * y + p * x + a * z ≡ a * y + b * x + p * z
 
--- So does a number to itself twice
+-- So lies a number to itself on both sides
 like-same : (a p b k : ℕ) → Likewise a p b k k k
 like-same a p b k = record { equal = omega arith }
 
--- a sum
+-- so lie sums
 like-sum : {a p b x y z u v w : ℕ} → Likewise a p b x y z → Likewise a p b u v w → Likewise a p b (x + u) (y + v) (z + w)
 like-sum h k = record { equal = omega (arith, h .equal, k .equal) }
 
--- and a product
+-- and products
 like-times : {a p b x y z : ℕ} (k : ℕ) → Likewise a p b x y z → Likewise a p b (k * x) (k * y) (k * z)
 like-times k h = record { equal = omega (arith, ap (λ (t : ℕ). k * t) (h .equal)) }
 
@@ -110,17 +84,13 @@ amid {a} {p} {b} {la} {ra} {lp} {rp} on apart l r m n = at (either-way a b)
 
 -- A point between two that are strictly left of a line is so too
 left-amid : {a p b : Point} → OnEdge a p b → Apart a p → (c d : Point) → StrictlyLeft c d a → StrictlyLeft c d b → StrictlyLeft c d p
-left-amid {a} {p} {b} on apart c d h k = at apart
+left-amid {a} {p} {b} on apart c d h k = either-along (λ (w : Way). along w a ≡ along w p → ⊥) one apart
   where
     one : (w : Way) → (along w a ≡ along w p → ⊥) → StrictlyLeft c d p
     one w l =
         let m : leftSum d c a < leftSum c d a = omega (arith, h) in
         let n : leftSum d c b < leftSum c d b = omega (arith, k) in
         omega (arith, amid (between-along w on) l (like-left on c d w) (like-left on d c w) m n)
-
-    at : Apart a p → StrictlyLeft c d p
-    at (inl l) = one up l
-    at (inr l) = one across l
 
 -- Where an edge shares no point with another, its part to a point on it shares none
 part-unshared : {a p b : Point} {f : Edge} → OnEdge a p b → Apart a p → Unshared (edge a b) f → Unshared (edge a p) f
@@ -202,7 +172,7 @@ clear-both {a} {p} {b} {f} on h k = at (h .way) (k .way) (h .beside) (k .beside)
     at across up l m = crosswise on l (beside-back m)
     at across across l m = clear (record { way = across; beside = beside-both l m })
 
--- Two weighted means of one weight are one number: not with b and p below c and d
+-- Two pairs of numbers with weights of one sum and one moment: the one is not below the other
 balance-below : (m b p c d lp rp lb rb lc rc ld rd : ℕ) → rp ≤ lp → lb ≤ rb → lc ≤ rc → rd ≤ ld → rp + lb < lp + rb
     → lp + rb + (rd + lc) ≡ rp + lb + (ld + rc)
     → lp * b + rb * p + (rd * c + lc * d) ≡ rp * b + lb * p + (ld * c + rc * d)
@@ -211,7 +181,7 @@ balance-below m b p c d lp rp lb rb lc rc ld rd hp hb hc hd some weights moments
     let e : m * (lp + rb + (rd + lc)) ≡ m * (rp + lb + (ld + rc)) = ap (λ (x : ℕ). m * x) weights in
     omega (arith, some, weights, moments, e, product-le hp mb, product-le hb mp, product-le hd mc, product-le hc md)
 
--- nor above
+-- nor above it
 balance : (b p c d lp rp lb rb lc rc ld rd : ℕ) → rp < lp → lb ≤ rb → lc ≤ rc → rd ≤ ld
     → lp + rb + (rd + lc) ≡ rp + lb + (ld + rc)
     → lp * b + rb * p + (rd * c + lc * d) ≡ rp * b + lb * p + (ld * c + rc * d)
@@ -237,8 +207,9 @@ module _ (p b c d : Point) where
     where
       none : leftSum c d b ≤ rightSum c d b → leftSum p b c ≤ rightSum p b c → rightSum p b d ≤ leftSum p b d → ⊥
       none l m n =
-          balance (along (k .way) b) (along (k .way) p) (along (k .way) c) (along (k .way) d) (leftSum c d p) (rightSum c d p) (leftSum c d b)
-          (rightSum c d b) (leftSum p b c) (rightSum p b c) (leftSum p b d) (rightSum p b d) h l m n (omega arith) (moments (k .way)) (k .beside)
+          let w = k .way in
+          balance (along w b) (along w p) (along w c) (along w d) (leftSum c d p) (rightSum c d p) (leftSum c d b) (rightSum c d b)
+          (leftSum p b c) (rightSum p b c) (leftSum p b d) (rightSum p b d) h l m n (omega arith) (moments w) (k .beside)
 
       so : leftSum c d b ≤ rightSum c d b → (leftSum p b c ≤ rightSum p b c) ⊎ (rightSum p b c < leftSum p b c)
           → (rightSum p b d ≤ leftSum p b d) ⊎ (leftSum p b d < rightSum p b d) → Sided (edge p b) (edge c d)
