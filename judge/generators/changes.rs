@@ -38,7 +38,7 @@ pub fn pair(random: &mut Random) -> (Vec<Point>, Vec<Point>) {
 }
 
 /// Only the last list needs 3 corners; on the way there may be fewer.
-fn change_often(random: &mut Random, corners: &mut Vec<Point>) {
+pub fn change_often(random: &mut Random, corners: &mut Vec<Point>) {
     for _ in 0..random.between(1, 12) {
         change(random, corners);
     }

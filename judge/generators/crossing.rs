@@ -13,39 +13,19 @@ use crate::program::grid::{size, Point, DEGREE, LAT_END, LON_END};
 pub type Maker = fn(&mut Random) -> Vec<Point>;
 
 /// Boundaries that are nearly always crossed.
-pub const CROSSED: [(&str, Maker); 13] = [
-    ("waist", crossed_waist),
-    ("waist", crossed_waist),
-    ("waist", crossed_waist),
-    ("bow-tie", bow_tie),
-    ("corner on an edge", touched),
-    ("spike", spiked),
-    ("wall", walled),
-    ("notch", deep_notch),
-    ("keyhole", closed_keyhole),
-    ("pinch", pinched),
-    ("line", on_one_line),
-    ("there and back", there_and_back),
-    ("run twice", run_twice),
+pub const CROSSED: [Maker; 11] = [
+    crossed_waist, bow_tie, touched, spiked, walled, deep_notch, closed_keyhole, pinched,
+    on_one_line, there_and_back, run_twice,
 ];
 
 /// Boundaries that are nearly always simple, or without edges.
-pub const MISSED: [(&str, Maker); 11] = [
-    ("waist", narrow_waist),
-    ("waist", narrow_waist),
-    ("waist", narrow_waist),
-    ("three corners", three_corners),
-    ("thin spike", thin_spike),
-    ("notch", shallow_notch),
-    ("keyhole", open_keyhole),
-    ("lobes", unpinched),
-    ("whole degree", whole_degree),
-    ("straight on", straight_on),
-    ("point", point),
+pub const MISSED: [Maker; 9] = [
+    narrow_waist, three_corners, thin_spike, shallow_notch, open_keyhole, unpinched, whole_degree,
+    straight_on, point,
 ];
 
 /// Boundaries of either sort.
-const MIXED: [(&str, Maker); 3] = [("grid", grid), ("tangle", tangled), ("shape", any)];
+const MIXED: [Maker; 3] = [grid, tangled, any];
 
 /// A unit that passes checks 2 to 5 and is crossed.
 pub fn crossed_unit(random: &mut Random) -> Vec<Point> {
@@ -72,9 +52,14 @@ pub fn small(random: &mut Random, maker: Maker) -> Vec<Point> {
     }
 }
 
-fn drawn(random: &mut Random, makers: &[(&str, Maker)], wanted: bool) -> Vec<Point> {
+/// The first of the makers, the waists, is asked more often than the others.
+fn drawn(random: &mut Random, makers: &[Maker], wanted: bool) -> Vec<Point> {
     loop {
-        let (_, maker) = if random.one_in(5) { random.pick(&MIXED) } else { random.pick(makers) };
+        let maker = match random.below(10) {
+            0..=2 => makers[0],
+            3..=4 => random.pick(&MIXED),
+            _ => random.pick(makers),
+        };
         let shape = maker(random);
         let small = Extent::of(&shape).is_some_and(|extent| extent.span() <= DEGREE);
         let corners = if small { set_down(random, shape) } else { continue };
@@ -284,9 +269,10 @@ fn pinched(random: &mut Random) -> Vec<Point> {
     corners
 }
 
-/// Two lobes with 1 u between them.
+/// Two lobes with 1 u between the corners where they would have one in common: the
+/// way around goes by the north of it first.
 fn unpinched(random: &mut Random) -> Vec<Point> {
-    let second = random.pick(&[at(1, 0), at(0, 1), at(1, -1), at(-1, 1)]);
+    let second = random.pick(&[at(1, 0), at(0, -1), at(1, -1)]);
     lobes(random, at(0, 0), second)
 }
 

@@ -2,6 +2,7 @@
 //! requests from a seed, and the fixed lists at every border.
 
 mod asked;
+pub mod bordercrossings;
 pub mod borderedges;
 pub mod borders;
 pub mod borderunits;
@@ -13,4 +14,4 @@ pub mod random;
 pub mod requests;
 pub mod shapes;
 pub mod units;
-mod waists;
+pub mod waists;

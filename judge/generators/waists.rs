@@ -50,20 +50,19 @@ fn count(random: &mut Random) -> usize {
     let count = match random.below(40) {
         0 => random.pick(&[1_021, 1_022, 1_023, 1_024, 1_024]),
         1 => random.between(65, 1_024),
-        2..=12 => block,
+        2..=9 => block,
+        10..=30 => random.between(33, 80),
         _ => random.between(8, 40),
     };
     count as usize
 }
 
 /// The upper path from west to east, a chain around the eastern lobe, the lower
-/// path back and a chain around the western lobe. The upper path starts at any
-/// place in the list.
+/// path back and a chain around the western lobe.
 fn ring(random: &mut Random, waist: Waist) -> Vec<Point> {
     let count = count(random);
     let body = count - 4 - inner(waist);
-    let some = random.index(body + 1);
-    let east = random.pick(&[0, 1, 2, body, body - 1, some, some, some]).min(body);
+    let (east, start) = spread(random, body, count);
     let west = body - east;
     // A corner of a chain lies this much below or above the one before.
     let most = random.pick(&[1, 3, 40, DEGREE / 4]).min(DEGREE / 4 / (body as i64 + 2));
@@ -75,11 +74,21 @@ fn ring(random: &mut Random, waist: Waist) -> Vec<Point> {
     let around = chain(random, upper[upper.len() - 1], lower[0], east, reach);
     let back = chain(random, lower[lower.len() - 1], upper[0], west, -reach);
     let mut corners = [upper, around, lower, back].concat();
-    let any = random.index(count);
-    // At the list's end lie a lower edge, the upper one, or the pair with one between.
-    let start = random.pick(&[0, 1, west, west + 1, west + 2, count - 1, count - 2, any, any, any]);
-    corners.rotate_right(start % count);
+    corners.rotate_right(start);
     corners
+}
+
+/// How many of the chains' corners are the eastern one's, and the place at which
+/// the upper path starts: both anywhere, so that a pair of edges has any place in
+/// its blocks, or both at an end.
+fn spread(random: &mut Random, body: usize, count: usize) -> (usize, usize) {
+    if !random.one_in(3) {
+        return (random.index(body + 1), random.index(count));
+    }
+    let east = random.pick(&[0, 0, 1, body - 1, body]);
+    let west = body - east;
+    // From west + 1 the lower edge is the closing one.
+    (east, random.pick(&[0, 1, west, west + 1, west + 1, west + 2, count - 2, count - 1]))
 }
 
 /// How many corners the paths have besides their ends.

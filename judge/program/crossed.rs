@@ -11,15 +11,19 @@ struct Placed {
     edge: Edge,
 }
 
-/// The place that refusal 31 names, or none where the boundary is not crossed:
-/// of the first pair that meets, by first edge, then second, the place of the
-/// first edge.
+/// The place that refusal 31 names, where the first edge of the first pair starts;
+/// none where the boundary is not crossed.
 pub fn crossed(corners: &[Point]) -> Option<usize> {
+    first_pair(corners).map(|(first, _)| first)
+}
+
+/// The places of the first pair that meets, by first edge, then second.
+pub fn first_pair(corners: &[Point]) -> Option<(usize, usize)> {
     let edges = placed_edges(corners);
     for first in 0..edges.len() {
         for second in first + 1..edges.len() {
             if pair_meets(&edges, first, second) {
-                return Some(edges[first].place);
+                return Some((edges[first].place, edges[second].place));
             }
         }
     }
