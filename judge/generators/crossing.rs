@@ -128,7 +128,7 @@ fn plain_ring(random: &mut Random) -> Vec<Point> {
     }
 }
 
-/// Any point of the box of some corners.
+/// A point at the latitude of one corner and the longitude of another.
 fn near(random: &mut Random, corners: &[Point]) -> Point {
     at(random.pick(corners).lat, random.pick(corners).lon)
 }

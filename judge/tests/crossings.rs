@@ -9,19 +9,60 @@ use crate::generators::changes::change_often;
 use crate::generators::crossing::{crossed_unit, missed_unit, CROSSED, MISSED};
 use crate::generators::random::Random;
 use crate::generators::requests::{kinds_of, requests};
+use crate::generators::units::line_of;
 use crate::generators::waists::crossed_waist;
 use crate::program::boundary::{edges, Edge};
 use crate::program::crossed::{crossed, first_pair};
 use crate::program::grid::Point;
 use crate::program::trials::trials;
 
-/// The fixed units meet first where they do by hand.
+/// The fixed units meet first where they do by hand, and both roads refuse just
+/// those that meet, with the first place.
 pub fn fixed_good() -> bool {
     crossings().iter().all(|(coordinates, pair)| {
         let corners: Vec<Point> =
             coordinates.chunks_exact(2).map(|c| Point { lat: c[0], lon: c[1] }).collect();
-        first_pair(&corners) == *pair && shares_first(&corners) == *pair
+        let line = String::from_utf8_lossy(&line_of('B', 1, coordinates)).into_owned();
+        let answered = ["plain", "quick"].iter().all(|road| {
+            let answer = answer(&format!("{road} 20 {line}"));
+            match pair {
+                Some((first, _)) => answer == format!("31 {first} ...................."),
+                None => ["0 0 ", "7 0 ", "8 0 "].iter().any(|good| answer.starts_with(good)),
+            }
+        });
+        answered && first_pair(&corners) == *pair && shares_first(&corners) == *pair
     })
+}
+
+/// What the trials answer to a request.
+fn answer(request: &str) -> String {
+    let mut answer = Vec::new();
+    // Writing into a Vec does not fail.
+    let _ = trials(request.as_bytes(), &mut answer);
+    String::from_utf8_lossy(&answer).trim_end().to_string()
+}
+
+/// A crossed unit that another check refuses too has the refusal that comes first.
+pub fn order_good() -> bool {
+    let cases = [
+        ("20 F 0 0 0 64 64 0 64 64 0", "31 0 ...................."),
+        ("19 F 0 0 0 64 64 0 64 64 0", "1 0 ..................."),
+        ("20 F 0 0 0 64 64 0 64 64 0 0", "2 0 ...................."),
+        ("20 F 0 0 0 64 64", "3 0 ...................."),
+        ("20 F 0 0 0 64 64 0 64 64 1327104001", "4 3 ...................."),
+        ("20 F 0 0 0 7372800 7372800 0 7372800 7372800 0", "31 0 ...................."),
+        ("20 F 0 0 0 7372801 64 0 64 7372801 0", "5 0 ...................."),
+        ("20 B 0 0 0 7372801 64 0 64 7372801 0", "5 0 ...................."),
+        ("20 B 0 0 0 64 64 0 64 64 0", "31 0 ...................."),
+        ("20 F 1 0 0 0 0 64 64", "31 1 ...................."),
+        ("20 F 1 0 0 0 64 64 64", "6 0 ...................."),
+        ("20 F 1 64 64 64 64 64 64", "6 0 ...................."),
+        ("20 F 0 64 64 64 64 64 64", "7 0 ...................."),
+    ];
+    let roads = ["plain", "quick"];
+    roads
+        .iter()
+        .all(|road| cases.iter().all(|(unit, said)| answer(&format!("{road} {unit}")) == *said))
 }
 
 /// The rule in whole numbers finds the pair that shared points find, on many small

@@ -47,7 +47,7 @@ pub fn agree(seed: u64, count: u64, output: &mut impl Write) -> io::Result<bool>
 pub fn selftest(output: &mut impl Write) -> io::Result<bool> {
     let mut good = cases(output)?;
     good &= agree(1, 2_000, output)?;
-    let tests: [(&str, fn() -> bool); 21] = [
+    let tests: [(&str, fn() -> bool); 22] = [
         ("letters", letters_good),
         ("grid", grid_good),
         ("meeting", meeting_good),
@@ -64,6 +64,7 @@ pub fn selftest(output: &mut impl Write) -> io::Result<bool> {
         ("answers of random questions", questions_good),
         ("random units that reach the search", units_good),
         ("crossed boundaries by hand", crossings::fixed_good),
+        ("31 between 5 and 6", crossings::order_good),
         ("crossed boundaries by shared points", crossings::fractions_good),
         ("changes of crossed ground", crossings::changes_good),
         ("ways to be crossed and to miss it", crossings::makers_good),
@@ -172,7 +173,7 @@ fn coded(corners: &[Point], room: &mut [u8]) -> Result<(), code::Refusal> {
 fn rectangles_good() -> bool {
     let mut random = Random::new(4);
     (0..5_000).all(|_| {
-        let (corners, _) = shapes::small(&mut random);
+        let (corners, _) = shapes::simple(&mut random);
         let mut room = [0; LENGTH];
         if coded(&corners, &mut room).is_err() {
             return true;
