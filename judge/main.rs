@@ -1,4 +1,4 @@
-//! The judge: a second program written from document 01 alone, against which
+//! The judge: a second program written from the documents alone, against which
 //! the verified program is compared. This file reads the command line.
 
 mod generators;

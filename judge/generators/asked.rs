@@ -228,7 +228,7 @@ fn add_corner(random: &mut Random, corners: &mut Vec<Point>) {
 }
 
 /// A whole point on the edge, an end where there is no other.
-fn on_edge(random: &mut Random, a: Point, b: Point) -> Point {
+pub fn on_edge(random: &mut Random, a: Point, b: Point) -> Point {
     let (up, along) = (b.lat - a.lat, b.lon - a.lon);
     let (mut steps, mut rest) = (up.abs(), along.abs());
     while rest > 0 {

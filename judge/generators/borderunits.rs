@@ -4,6 +4,7 @@
 
 use std::io::{self, Write};
 
+use super::bordercrossings::crossings;
 use super::borders::print_lines;
 use super::units::{coordinates_of, line_of};
 use crate::program::grid::{Cell, Point, DEGREE, LAT_END, LON_END, MINUTE, SECOND};
@@ -119,6 +120,7 @@ fn well_formed() -> Lines {
         counts(),
         ranges(),
         extents(),
+        crossed(),
         numbers(),
         levels(),
         cuts(),
@@ -237,6 +239,30 @@ fn extents() -> Lines {
     lines
 }
 
+/// Refusal 31 in every way and units that just escape it, then 31 beside 2 to 6.
+fn crossed() -> Lines {
+    let mut lines: Lines =
+        crossings().iter().map(|(coordinates, _)| line_of('B', 1, coordinates)).collect();
+    let bow_tie = |side: i64| vec![0, 0, side, side, 0, side, side, 0];
+    let mut above = bow_tie(64);
+    above[7] = LON_END + 1;
+    lines.extend(others(&[
+        bow_tie(DEGREE),
+        bow_tie(DEGREE + 1),
+        bow_tie(64)[..7].to_vec(),
+        bow_tie(64)[..4].to_vec(),
+        above,
+    ]));
+    for (kind, number) in [('B', 0), ('B', 1_048_576), ('F', 1)] {
+        lines.push(line_of(kind, number, &bow_tie(64)));
+        lines.push(line_of(kind, number, &bow_tie(DEGREE + 1)));
+        // Three corners on a line and all in one point.
+        lines.push(line_of(kind, number, &[0, 0, 64, 64, 32, 32]));
+        lines.push(line_of(kind, number, &[64; 6]));
+    }
+    lines
+}
+
 /// Refusal 6 at its borders, and before refusal 7.
 fn numbers() -> Lines {
     let unit = square(0, 0, 32);
@@ -287,8 +313,9 @@ fn cuts() -> Lines {
     others(&units)
 }
 
-/// Refusal 7 and units that just escape it: points, lines, thin units, and a
-/// notch that no corner of the cell shows.
+/// Refusal 7 and units that just escape it: points, thin units, and a notch that
+/// no corner of the cell shows. Lines are crossed, and so is ground without an
+/// inside because its boundary is run twice.
 fn no_cell() -> Lines {
     let point = |lat: i64, lon: i64| [lat, lon].repeat(3);
     let (lat, lon) = (LAT_END, LON_END);
@@ -311,7 +338,7 @@ fn no_cell() -> Lines {
         vec![0, 0, 0, 32, 32, 32, 32, 16, 16, 16, 32, 16, 32, 0],
         // The same corner touches the side only.
         vec![0, 0, 0, 32, 32, 32, 64, 16, 32, 16, 64, 8, 32, 0],
-        // A boundary run twice has no inside, run three times it has.
+        // A boundary run twice has no inside, run three times it would have.
         square(0, 0, 64).repeat(2),
         square(0, 0, 64).repeat(3),
     ])
@@ -340,16 +367,19 @@ fn spans() -> Lines {
 /// Units in which more than one cell could be chosen.
 fn choices() -> Lines {
     others(&[
-        // Two cells that touch in a point: west wins though it lies north.
-        vec![64, 0, 64, 64, 0, 64, 0, 128, 64, 128, 64, 64, 128, 64, 128, 0],
+        // Two cells, joined at their corners by 4 u: west wins though it lies north.
+        vec![64, 0, 64, 60, 60, 64, 0, 64, 0, 128, 64, 128, 64, 68, 68, 64, 128, 64, 128, 0],
         // As far west: south wins.
+        vec![0, 0, 0, 64, 64, 64, 96, 40, 128, 64, 192, 64, 192, 0, 128, 0, 96, 24, 64, 0],
+        // The same two pairs joined in a point are crossed.
+        vec![64, 0, 64, 64, 0, 64, 0, 128, 64, 128, 64, 64, 128, 64, 128, 0],
         vec![0, 0, 0, 64, 64, 64, 96, 32, 128, 64, 192, 64, 192, 0, 128, 0, 96, 32, 64, 0],
         // A larger cell in the east beats one in the west.
         vec![0, 0, 0, 256, 128, 256, 128, 128, 64, 128, 64, 0],
         // Level decides, not area: a cut level 18 cell beats whole level 19.
         rectangle(0, 52 * SECOND, 8 * SECOND, 12 * SECOND),
         rectangle(56 * SECOND, 56 * SECOND, 4 * SECOND, 12 * SECOND),
-        // Crossed, with an even count in the middle.
+        // Crossed, two of them with an even count in the middle.
         vec![0, 0, 0, 320, 320, 320, 320, 0, 96, 0, 96, 224, 224, 224, 224, 0],
         vec![0, 0, 128, 128, 0, 128, 128, 0],
         vec![0, 0, 0, 128, 96, 128, 96, 32, 32, 32, 32, 96, 128, 96, 128, 0],

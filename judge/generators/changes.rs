@@ -3,6 +3,7 @@
 
 use std::io::{self, Write};
 
+use super::crossing::small_crossed;
 use super::random::Random;
 use super::shapes;
 use super::units::{coordinates_of, good_number, line_of};
@@ -24,9 +25,9 @@ pub fn changes(seed: u64, count: u64, output: &mut impl Write) -> io::Result<()>
     output.flush()
 }
 
-/// A boundary and the same ground after some changes.
+/// A boundary, one in four crossed, and the same ground after some changes.
 pub fn pair(random: &mut Random) -> (Vec<Point>, Vec<Point>) {
-    let (mut first, _) = shapes::small(random);
+    let mut first = if random.one_in(4) { small_crossed(random) } else { shapes::simple(random).0 };
     // Sometimes the first is a changed one already, so that there is more to undo.
     if random.one_in(3) {
         change_often(random, &mut first);
@@ -37,7 +38,7 @@ pub fn pair(random: &mut Random) -> (Vec<Point>, Vec<Point>) {
 }
 
 /// Only the last list needs 3 corners; on the way there may be fewer.
-fn change_often(random: &mut Random, corners: &mut Vec<Point>) {
+pub fn change_often(random: &mut Random, corners: &mut Vec<Point>) {
     for _ in 0..random.between(1, 12) {
         change(random, corners);
     }
@@ -63,7 +64,7 @@ fn change(random: &mut Random, corners: &mut Vec<Point>) {
     }
 }
 
-fn repeat_corner(random: &mut Random, corners: &mut Vec<Point>) {
+pub fn repeat_corner(random: &mut Random, corners: &mut Vec<Point>) {
     if corners.len() < CORNERS_MAX {
         let at = random.index(corners.len());
         corners.insert(at, corners[at]);
@@ -71,7 +72,7 @@ fn repeat_corner(random: &mut Random, corners: &mut Vec<Point>) {
 }
 
 /// Sets a corner on an edge, where a whole point lies between its ends.
-fn set_on_edge(random: &mut Random, corners: &mut Vec<Point>) {
+pub fn set_on_edge(random: &mut Random, corners: &mut Vec<Point>) {
     let at = random.index(corners.len());
     let (a, b) = (corners[at], corners[(at + 1) % corners.len()]);
     let (up, along) = (b.lat - a.lat, b.lon - a.lon);

@@ -4,13 +4,14 @@
 use super::random::Random;
 use super::shapes::{at, base, comb, listed, mirrored, star};
 use crate::program::boundary::Extent;
+use crate::program::crossed::crossed;
 use crate::program::grid::{size, Point, DEGREE, FINEST, LAT_END, LON_END, STEP};
 use crate::program::quick;
 
 /// More sizes of the chosen cell than this go into the larger extent.
 const MANY: i64 = 32;
 
-/// A unit that passes checks 2 to 5, whose chosen cell goes more than 32 times
+/// A unit that passes checks 2 to 5 and 31, whose chosen cell goes more than 32 times
 /// into its larger extent, or that has none and is longer than 32 of the
 /// smallest cells.
 pub fn far(random: &mut Random) -> Vec<Point> {
@@ -18,7 +19,7 @@ pub fn far(random: &mut Random) -> Vec<Point> {
         let corners = any(random);
         let span = Extent::of(&corners).map_or(0, |extent| extent.span());
         let fine = quick::chosen(&corners).map_or(STEP, |cell| size(cell.level));
-        if MANY * fine < span && span <= DEGREE {
+        if MANY * fine < span && span <= DEGREE && crossed(&corners).is_none() {
             return corners;
         }
     }
@@ -30,8 +31,11 @@ fn any(random: &mut Random) -> Vec<Point> {
     let length = (thick * random.between(16, 128)).min(DEGREE);
     let height = length / random.between(1, 20);
     let shape = match random.below(8) {
-        0..=3 => band(&winding(random, height, length), thick.min(length / 20)),
-        4..=5 => band(&stairs(random, height, length), thick.min(length / 20)),
+        0..=3 => band(&winding(random, height, length), thick.min(length / 20), 0),
+        4..=5 => {
+            let thick = thick.min(length / 20);
+            band(&stairs(random, height, length), thick, thick)
+        }
         6 => {
             let teeth = random.between(20, 60);
             comb(random, teeth, height, length)
@@ -84,8 +88,9 @@ fn stairs(random: &mut Random, height: i64, width: i64) -> Vec<Point> {
     (0..steps).flat_map(step).collect()
 }
 
-/// The ground from a path to the same path further north.
-fn band(path: &[Point], thick: i64) -> Vec<Point> {
-    let back = path.iter().rev().map(|p| at(p.lat + thick, p.lon));
-    path.iter().copied().chain(back).collect()
+/// The ground from a path to the same path so much further north and west.
+fn band(path: &[Point], north: i64, west: i64) -> Vec<Point> {
+    let there = path.iter().map(|p| at(p.lat, p.lon + west));
+    let back = path.iter().rev().map(|p| at(p.lat + north, p.lon));
+    there.chain(back).collect()
 }

@@ -2,13 +2,16 @@
 //! requests from a seed, and the fixed lists at every border.
 
 mod asked;
+pub mod bordercrossings;
 pub mod borderedges;
 pub mod borders;
 pub mod borderunits;
 mod broken;
 pub mod changes;
+pub mod crossing;
 mod far;
 pub mod random;
 pub mod requests;
 pub mod shapes;
 pub mod units;
+pub mod waists;

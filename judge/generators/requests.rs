@@ -4,6 +4,7 @@ use std::io::{self, Write};
 
 use super::asked::{inside_request, meets_request, odd_request};
 use super::broken::{broken, noise, BAD_NUMBERS};
+use super::crossing::{self, crossed_unit, missed_unit};
 use super::far::far;
 use super::random::Random;
 use super::shapes;
@@ -15,17 +16,21 @@ use crate::program::trials::{request_of, Request};
 
 type Maker = fn(&mut Random) -> Vec<u8>;
 
+/// Draws a kind of unit and its number.
+type Numbered = fn(&mut Random) -> (char, i64);
+
 /// How often a kind of request is made, against the others, and how.
 type Share = (u64, Maker);
 
 /// The kinds of requests with their shares.
-const KINDS: [(&str, u64, Maker); 10] = [
+const KINDS: [(&str, u64, Maker); 11] = [
     ("write", 25, write_request),
     ("read", 30, read_request),
     ("plain", 15, plain_request),
     ("quick", 15, quick_request),
     ("plain-units", 5, plain_unit),
     ("quick-units", 5, quick_unit),
+    ("crossed-units", 5, crossing_unit),
     ("meets", 10, meets_request),
     ("odd", 10, odd_request),
     ("inside", 15, inside_request),
@@ -315,23 +320,38 @@ fn code_request(random: &mut Random, road: &str) -> Vec<u8> {
     line
 }
 
-/// A small unit that passes checks 1 to 6, so that the plain road has to search.
+/// A small unit that passes checks 1 to 6 and 31, so that the plain road has to
+/// search.
 fn plain_unit(random: &mut Random) -> Vec<u8> {
-    let (corners, _) = shapes::small(random);
-    unit_request(random, "plain", &corners)
+    let (corners, _) = shapes::simple(random);
+    unit_request(random, "plain", &corners, units::good_number)
 }
 
 /// The same for the quick road; every third unit is one on which it has to go
 /// far down.
 fn quick_unit(random: &mut Random) -> Vec<u8> {
-    let corners = if random.one_in(3) { far(random) } else { shapes::small(random).0 };
-    unit_request(random, "quick", &corners)
+    let corners = if random.one_in(3) { far(random) } else { shapes::simple(random).0 };
+    unit_request(random, "quick", &corners, units::good_number)
 }
 
-fn unit_request(random: &mut Random, road: &str, corners: &[Point]) -> Vec<u8> {
+/// A unit for refusal 31: half are crossed, the others just not. Half are asked of
+/// each road, of the plain one only such as it would end on quickly. One in eight
+/// would be refused 6.
+fn crossing_unit(random: &mut Random) -> Vec<u8> {
+    let maker = random.pick(&[crossed_unit as crossing::Maker, missed_unit]);
+    let number = if random.one_in(8) { units::bad_number as Numbered } else { units::good_number };
+    if random.one_in(2) {
+        let corners = crossing::small(random, maker);
+        return unit_request(random, "plain", &corners, number);
+    }
+    let corners = maker(random);
+    unit_request(random, "quick", &corners, number)
+}
+
+fn unit_request(random: &mut Random, road: &str, corners: &[Point], number: Numbered) -> Vec<u8> {
     let any = random.between(20, 64);
     let room = random.pick(&[20, 20, 20, 20, 21, 64, any]);
-    let (kind, number) = units::good_number(random);
+    let (kind, number) = number(random);
     let start = format!("{road} {room} ").into_bytes();
     [start, units::line_of(kind, number, &units::coordinates_of(corners))].concat()
 }

@@ -3,6 +3,7 @@
 
 use super::random::Random;
 use crate::program::boundary::Extent;
+use crate::program::crossed::crossed;
 use crate::program::grid::{
     size, Cell, Point, DEGREE, FINEST, LAT_END, LON_END, MINUTE, SECOND, STEP,
 };
@@ -25,6 +26,21 @@ pub fn small(random: &mut Random) -> (Vec<Point>, Option<Cell>) {
             Outcome::GaveUp => {}
         }
     }
+}
+
+/// Such a unit that is not crossed, so that coding it has to search.
+pub fn simple(random: &mut Random) -> (Vec<Point>, Option<Cell>) {
+    loop {
+        let (corners, cell) = small(random);
+        if crossed(&corners).is_none() {
+            return (corners, cell);
+        }
+    }
+}
+
+/// Whether the plain search ends on the unit quickly.
+pub fn search_ends(corners: &[Point]) -> bool {
+    plain::search(corners, WORK) != Outcome::GaveUp
 }
 
 /// A unit of any sort in the ranges of latitude and longitude.
@@ -136,7 +152,8 @@ fn drawn(random: &mut Random, height: i64, width: i64) -> Vec<Point> {
         10 => stairs(random, height, width),
         11 if random.one_in(5) => {
             let count = random.index(200) + 10;
-            points(random, count, height, width)
+            let many = random.pick(&[points, star]);
+            many(random, count, height, width)
         }
         _ => {
             let count = random.index(7) + 3;
@@ -160,7 +177,7 @@ pub fn at(lat: i64, lon: i64) -> Point {
     Point { lat, lon }
 }
 
-fn rectangle(height: i64, width: i64) -> Vec<Point> {
+pub fn rectangle(height: i64, width: i64) -> Vec<Point> {
     vec![at(0, 0), at(0, width), at(height, width), at(height, 0)]
 }
 

@@ -4,6 +4,7 @@
 use std::io::{self, Write};
 
 use super::broken::{broken, noise};
+use super::crossing::small_crossed;
 use super::random::Random;
 use super::shapes;
 use crate::program::code::NUMBER_MAX;
@@ -54,7 +55,7 @@ pub fn good_number(random: &mut Random) -> (char, i64) {
     ('B', random.pick(&[1, 2, 31, 32, 1_024, 32_768, NUMBER_MAX - 1, NUMBER_MAX, any, any]))
 }
 
-fn bad_number(random: &mut Random) -> (char, i64) {
+pub fn bad_number(random: &mut Random) -> (char, i64) {
     let any = random.between(1, u32::MAX.into());
     if random.one_in(2) {
         ('F', random.pick(&[1, 2, 32, NUMBER_MAX, NUMBER_MAX + 1, u32::MAX.into(), any]))
@@ -65,16 +66,17 @@ fn bad_number(random: &mut Random) -> (char, i64) {
 
 /// A line of the listing's form: a small unit, good or with one or more faults.
 pub fn well_formed(random: &mut Random) -> Vec<u8> {
-    let (corners, _) = shapes::small(random);
+    let (corners, _) = shapes::simple(random);
     let mut coordinates = coordinates_of(&corners);
     let (mut kind, mut number) = good_number(random);
     let faults = random.pick(&[0, 0, 0, 0, 0, 1, 1, 1, 2, 3]);
     for _ in 0..faults {
-        match random.below(6) {
+        match random.below(7) {
             0 => make_odd(random, &mut coordinates),
             1 => recount(random, &mut coordinates),
             2 => put_above(random, &mut coordinates),
             3 => coordinates = too_wide(random),
+            4 => coordinates = coordinates_of(&small_crossed(random)),
             _ => (kind, number) = bad_number(random),
         }
     }
@@ -117,7 +119,8 @@ fn put_above(random: &mut Random, coordinates: &mut [i64]) {
     coordinates[at] = random.pick(&[end + 1, end + 32, u32::MAX.into(), any]);
 }
 
-/// A rectangle with one extent just above a degree, or far above it.
+/// A rectangle with one extent just above a degree, or far above it, sometimes
+/// with two corners in each other's place, so that it is crossed too.
 fn too_wide(random: &mut Random) -> Vec<i64> {
     let far = DEGREE + random.pick(&[1, 1, 2, 33, DEGREE]);
     let near = random.between(1, DEGREE);
@@ -125,6 +128,9 @@ fn too_wide(random: &mut Random) -> Vec<i64> {
     let south = random.between(0, LAT_END - height);
     let west = random.between(0, LON_END - width);
     let (north, east) = (south + height, west + width);
+    if random.one_in(4) {
+        return vec![south, west, north, east, south, east, north, west];
+    }
     vec![south, west, south, east, north, east, north, west]
 }
 

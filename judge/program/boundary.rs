@@ -49,7 +49,7 @@ fn product(a: i64, b: i64) -> i128 {
 }
 
 /// Above 0 on one side of the edge's line, below 0 on the other, 0 on it.
-fn side(edge: &Edge, p: Point) -> i128 {
+pub fn side(edge: &Edge, p: Point) -> i128 {
     product(edge.b.lon - edge.a.lon, p.lat - edge.a.lat)
         - product(edge.b.lat - edge.a.lat, p.lon - edge.a.lon)
 }

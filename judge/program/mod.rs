@@ -1,9 +1,10 @@
 //! The second program: document 01's grid, boundary, two searches, code, units
-//! and listing, and the answers to requests. It uses nothing of the generators
-//! and the tests.
+//! and listing, document 02's crossed boundaries, and the answers to requests. It
+//! uses nothing of the generators and the tests.
 
 pub mod boundary;
 pub mod code;
+pub mod crossed;
 pub mod grid;
 pub mod lines;
 pub mod plain;

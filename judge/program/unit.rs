@@ -1,8 +1,9 @@
-//! Coding a unit from its corners: the checks 1 to 8 in order, scale, spans,
-//! and the code written into the room.
+//! Coding a unit from its corners: the checks 1 to 5, 31, and 6 to 8 in this order,
+//! scale, spans, and the code written into the room.
 
 use super::boundary::Extent;
 use super::code::{parts_of, refused, spell, Fields, Refusal, LENGTH, NUMBER_MAX};
+use super::crossed::crossed;
 use super::grid::{size, Cell, Point, COARSEST, DEGREE, FINEST, LAT_END, LON_END};
 use super::{plain, quick};
 
@@ -36,6 +37,9 @@ pub fn code(unit: &Unit, room: &mut [u8], road: Road) -> Result<(), Refusal> {
     // The larger extent is above a degree when either is.
     if extent.span() > DEGREE {
         return Err(refused(5));
+    }
+    if let Some(place) = crossed(&corners) {
+        return Err(Refusal { number: 31, place });
     }
     check_number(unit)?;
     let cell = match road {

@@ -1,4 +1,5 @@
 //! The judge's tests: the document's cases, and what holds of all codes.
 
 pub mod cases;
+mod crossings;
 pub mod selftest;

@@ -5,6 +5,7 @@ use std::collections::BTreeSet;
 use std::io::{self, Write};
 
 use super::cases::cases;
+use super::crossings;
 use crate::generators::borderedges::border_edges;
 use crate::generators::borders::borders;
 use crate::generators::borderunits::{border_roads, border_units};
@@ -46,7 +47,7 @@ pub fn agree(seed: u64, count: u64, output: &mut impl Write) -> io::Result<bool>
 pub fn selftest(output: &mut impl Write) -> io::Result<bool> {
     let mut good = cases(output)?;
     good &= agree(1, 2_000, output)?;
-    let tests: [(&str, fn() -> bool); 15] = [
+    let tests: [(&str, fn() -> bool); 22] = [
         ("letters", letters_good),
         ("grid", grid_good),
         ("meeting", meeting_good),
@@ -61,7 +62,14 @@ pub fn selftest(output: &mut impl Write) -> io::Result<bool> {
         ("inside and the plain search", inside_good),
         ("borders of edges", edges_good),
         ("answers of random questions", questions_good),
-        ("random units that pass checks 1 to 6", units_good),
+        ("random units that reach the search", units_good),
+        ("crossed boundaries by hand", crossings::fixed_good),
+        ("31 between 5 and 6", crossings::order_good),
+        ("crossed boundaries by shared points", crossings::fractions_good),
+        ("changes of crossed ground", crossings::changes_good),
+        ("ways to be crossed and to miss it", crossings::makers_good),
+        ("places of the edges that meet", crossings::places_good),
+        ("random units for refusal 31", crossings::share_good),
     ];
     for (name, test) in tests {
         let passed = test();
@@ -165,7 +173,7 @@ fn coded(corners: &[Point], room: &mut [u8]) -> Result<(), code::Refusal> {
 fn rectangles_good() -> bool {
     let mut random = Random::new(4);
     (0..5_000).all(|_| {
-        let (corners, _) = shapes::small(&mut random);
+        let (corners, _) = shapes::simple(&mut random);
         let mut room = [0; LENGTH];
         if coded(&corners, &mut room).is_err() {
             return true;
@@ -183,13 +191,16 @@ fn rectangles_good() -> bool {
     })
 }
 
-/// The same ground has the same code or refusal.
+/// The same ground has the same code, or a refusal with the same number; the place
+/// of a 31 may differ.
 fn changes_good() -> bool {
     let mut random = Random::new(5);
     (0..3_000).all(|_| {
         let (first, second) = pair(&mut random);
         let (mut one, mut two) = ([0; LENGTH], [0; LENGTH]);
-        coded(&first, &mut one) == coded(&second, &mut two) && one == two
+        let number = |refusal: code::Refusal| refusal.number;
+        let first = coded(&first, &mut one).map_err(number);
+        first == coded(&second, &mut two).map_err(number) && one == two
     })
 }
 
@@ -216,7 +227,7 @@ fn borders_good() -> bool {
 fn roads_good() -> bool {
     let answers = answers(border_roads);
     let all: Vec<&str> = answers.lines().collect();
-    meet(&answers, "0 1 2 3 4 5 6 7 8") && all.chunks(2).all(|two| two[0] == two[two.len() - 1])
+    meet(&answers, "0 1 2 3 31 4 5 6 7 8") && all.chunks(2).all(|two| two[0] == two[two.len() - 1])
 }
 
 /// The fixed lines meet every number of the listing several times, and each
@@ -229,7 +240,11 @@ fn listing_good() -> bool {
     let numbered = replies.lines().zip(1..).all(|(reply, n)| reply.starts_with(&format!("{n} ")));
     let refused = |number: u8| replies.matches(&format!(" refused {number} ")).count();
     let codes = replies.lines().filter(|reply| !reply.contains("refused")).count();
-    numbered && codes > 100 && (2..=10).all(|number| refused(number) >= 5) && refused(9) > 70
+    numbered
+        && codes > 100
+        && (2..=10).all(|number| refused(number) >= 5)
+        && refused(9) > 70
+        && refused(31) > 50
 }
 
 /// A boundary is closed, so an even count of edges crosses a latitude: those
