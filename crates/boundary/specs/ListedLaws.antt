@@ -189,6 +189,19 @@ module _ (room : List ℕ) (i : ℕ) (e : Edge) where
 abbrev pub edgesAfter : List ℕ → ℕ → List Edge
 edgesAfter numbers i = map (edgeFrom numbers) (countUp (length numbers / 2 - i) i)
 
+-- The first of them is the one from that place
+pub edges-after : (numbers : List ℕ) (i : ℕ) → i < length numbers / 2 → edgesAfter numbers i ≡ edgeFrom numbers i ∷ edgesAfter numbers (i + 1)
+edges-after numbers i less =
+    let more : length numbers / 2 - i ≡ suc (length numbers / 2 - (i + 1)) = omega arith in
+    ap (λ (n : ℕ). map (edgeFrom numbers) (countUp n i)) more
+    ∙ ap (λ (k : ℕ). edgeFrom numbers i ∷ map (edgeFrom numbers) (countUp (length numbers / 2 - (i + 1)) k)) (sym (add-one i))
+
+-- and past the last place there are none
+pub edges-over : (numbers : List ℕ) (i : ℕ) → length numbers / 2 ≤ i → edgesAfter numbers i ≡ []
+edges-over numbers i over =
+    let none : length numbers / 2 - i ≡ 0 = omega arith in
+    ap (λ (n : ℕ). map (edgeFrom numbers) (countUp n i)) none
+
 module _ (numbers : List ℕ) where
   edge-to : (i j : ℕ) → placeAfter (length numbers / 2) i ≡ j → edge (cornerAt numbers i) (cornerAt numbers j) ≡ edgeFrom numbers i
   edge-to i j e = ap (λ (k : ℕ). edge (cornerAt numbers i) (cornerAt numbers k)) (sym e)
@@ -209,7 +222,7 @@ module _ (numbers : List ℕ) where
       ∙ ap₂ (λ (e : Edge) (es : List Edge). e ∷ es) (edge-to i (suc i) more) (joined-places k (suc i) (omega arith))
 
   -- So the boundary's edges are those from all places that have a length, and these are the places
-  all-places : (boundaryOf numbers ≡ withLength (edgesAfter numbers 0)) × (placesOf (cornersOf numbers) ≡ placesFrom 0 (edgesAfter numbers 0))
+  pub all-places : (boundaryOf numbers ≡ withLength (edgesAfter numbers 0)) × (placesOf (cornersOf numbers) ≡ placesFrom 0 (edgesAfter numbers 0))
   unfolding edgesOf placesOf
   all-places = by (length numbers / 2) refl
     where
@@ -261,13 +274,6 @@ listing-begin numbers edges places =
 
 module _ {numbers lent-edges lent-places edges places : List ℕ} {i listed : ℕ} (l : Listing numbers lent-edges lent-places edges places i listed)
     (less : i < length numbers / 2) (fits : length numbers / 2 ≤ length lent-edges / 4) (holds : length numbers / 2 ≤ length lent-places) where
-  -- The edge from the place, and those from the next on
-  next : edgesAfter numbers i ≡ edgeFrom numbers i ∷ edgesAfter numbers (i + 1)
-  next =
-      let more : length numbers / 2 - i ≡ suc (length numbers / 2 - (i + 1)) = omega arith in
-      ap (λ (n : ℕ). map (edgeFrom numbers) (countUp n i)) more
-      ∙ ap (λ (k : ℕ). edgeFrom numbers i ∷ map (edgeFrom numbers) (countUp (length numbers / 2 - (i + 1)) k)) (sym (add-one i))
-
   -- An edge of no length is left out
   listing-skip : noLength (edgeFrom numbers i) ≡ true → Listing numbers lent-edges lent-places edges places (i + 1) listed
   listing-skip e =
@@ -276,10 +282,10 @@ module _ {numbers lent-edges lent-places edges places : List ℕ} {i listed : �
         found = l .found;
         starts = l .starts;
         edges-all = l .edges-all
-            ∙ ap (λ (es : List Edge). l .found ++ withLength es) next
+            ∙ ap (λ (es : List Edge). l .found ++ withLength es) (edges-after numbers i less)
             ∙ ap (λ (b : Bool). l .found ++ cond b (withLength rest) (edgeFrom numbers i ∷ withLength rest)) e;
         places-all = l .places-all
-            ∙ ap (λ (es : List Edge). l .starts ++ placesFrom i es) next
+            ∙ ap (λ (es : List Edge). l .starts ++ placesFrom i es) (edges-after numbers i less)
             ∙ ap (λ (b : Bool). l .starts ++ cond b (placesFrom (suc i) rest) (i ∷ placesFrom (suc i) rest)) e
             ∙ ap (λ (k : ℕ). l .starts ++ placesFrom k rest) (sym (add-one i));
         many = l .many;
@@ -300,11 +306,11 @@ module _ {numbers lent-edges lent-places edges places : List ℕ} {i listed : �
         found = l .found ++ (edgeFrom numbers i ∷ []);
         starts = l .starts ++ (i ∷ []);
         edges-all = l .edges-all
-            ∙ ap (λ (es : List Edge). l .found ++ withLength es) next
+            ∙ ap (λ (es : List Edge). l .found ++ withLength es) (edges-after numbers i less)
             ∙ ap (λ (b : Bool). l .found ++ cond b (withLength rest) (edgeFrom numbers i ∷ withLength rest)) e
             ∙ sym (append-assoc (l .found) (edgeFrom numbers i ∷ []) (withLength rest));
         places-all = l .places-all
-            ∙ ap (λ (es : List Edge). l .starts ++ placesFrom i es) next
+            ∙ ap (λ (es : List Edge). l .starts ++ placesFrom i es) (edges-after numbers i less)
             ∙ ap (λ (b : Bool). l .starts ++ cond b (placesFrom (suc i) rest) (i ∷ placesFrom (suc i) rest)) e
             ∙ ap (λ (k : ℕ). l .starts ++ (i ∷ placesFrom k rest)) (sym (add-one i))
             ∙ sym (append-assoc (l .starts) (i ∷ []) (placesFrom (i + 1) rest));

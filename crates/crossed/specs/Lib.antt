@@ -1,5 +1,7 @@
+pub mod Crossed
 pub mod Around
 pub mod Chains
-pub mod Crossed
-pub mod CrossedLaws
 pub mod RingLaws
+pub mod CrossedLaws
+pub mod Meeting
+pub mod MeetingLaws

@@ -24,7 +24,10 @@ pub(crate) fn corner(numbers: &[u32], i: usize) -> Point
     }
 }
 
+// The place after a place of so many: after the last comes the first.
 pub(crate) fn place_after(count: usize, i: usize) -> usize
+    requires { ⌜ i < count ⌝ }
+    ensures { λ r. ⌜ r ≡ placeAfter count i ⌝ }
 {
     let after = i + 1;
     if after == count { 0 } else { after }

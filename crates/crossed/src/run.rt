@@ -1,6 +1,7 @@
 // Runs: edges one after the other that all go strictly on one course, of which no two meet.
 ghost use Prim.Native.Nat.{_/_, _<_};
 ghost use mathlib.Core.Path.{_≡_};
+ghost use mathlib.Core.Bool.{_&&_};
 ghost use lib.ListN.{length};
 ghost use Rattle.crossed.specs.Runs.{toward, Going, Free};
 use crate::meeting::corner;
@@ -68,13 +69,16 @@ fn run_end(numbers: &[u32], i: usize) -> usize
 }
 
 // Whether the way from a over b to c keeps to a course.
-fn goes_on(a: Point, b: Point, c: Point, course: Course) -> bool
+fn keeps(a: Point, b: Point, c: Point, course: Course) -> bool
+    ensures { λ r. ⌜ r ≡ (toward course a b && toward course b c) ⌝ }
 {
     goes(a, b, course) && goes(b, c, course)
 }
 
 // The next place, or the one after it where the edge from the next goes on.
 fn past_next(numbers: &[u32], i: usize) -> usize
+    requires { ⌜ i < length (now numbers) / 2 ⌝ }
+    ensures { λ r. ⌜ (i < r) × Free (now (numbers .entry)) i r ⌝ }
 {
     let next = i + 1;
     if next == numbers.len() / 2 {
@@ -83,7 +87,10 @@ fn past_next(numbers: &[u32], i: usize) -> usize
     let a = corner(numbers, i);
     let b = corner(numbers, next);
     let c = end_of(numbers, next);
-    if goes_on(a, b, c, by_lat(a, b)) || goes_on(a, b, c, by_lon(a, b)) { next + 1 } else { next }
+    if keeps(a, b, c, by_lat(a, b)) || keeps(a, b, c, by_lon(a, b)) {
+        return next + 1;
+    }
+    next
 }
 
 // A place after that of an edge, up to which no two edges meet: that of the run so far where it is one, or
