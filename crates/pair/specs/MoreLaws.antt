@@ -1,5 +1,5 @@
--- The laws of two edges of which one follows the other: when they share more than their corner, either way round, and what a point on one
--- of them changes. Assumes nothing.
+-- The laws of two edges of which one follows the other: when they share more than their corner, either way round, that they do not where
+-- they go on in a direction, and what a point on one of them changes. Assumes nothing.
 use Prim.Native.Nat.{ℕ, _+_, _*_, _≤_, _<_}
 use native.Mathlib.Omega.{arith}
 use mathlib.Core.Path.{_≡_, refl, ap, ap₂, sym, _∙_}
@@ -52,7 +52,7 @@ module _ (a b c : Point) where
   unfolding shareMore
   more-line = ap (λ (t : Bool). t && onOneLine a b c && onSameSide a b c) (no-length b)
 
-  -- as the test says
+  -- What the test says
   more-told : shareMore (edge a b) (edge b c) ≡ true → More a b c
   unfolding leftOrOn
   more-told t =
@@ -122,14 +122,14 @@ onward a b c t = at (either (ltb a b && ltb b c) (ltb c b && ltb b a) t)
     at (inl h) = let ts = both (ltb a b) (ltb b c) h in rising (ltb-true a b (ts .0)) (ltb-true b c (ts .1))
     at (inr h) = let ts = both (ltb c b) (ltb b a) h in falling (ltb-true c b (ts .0)) (ltb-true b a (ts .1))
 
--- What lies between two numbers has them not on the same side
+-- A number between two others does not have them on the same side
 not-together : {a b c : ℕ} → Onward a b c → Together a b c → ⊥
 not-together (rising h k) (under l m) = omega arith
 not-together (rising h k) (over l m) = omega arith
 not-together (falling h k) (under l m) = omega arith
 not-together (falling h k) (over l m) = omega arith
 
--- nor has it so in the other direction, on one line
+-- nor, on one line, does it in the other direction
 not-aslant : {a b c p q r : ℕ} → p * b + q * c + r * a ≡ q * a + r * b + p * c → Onward p q r → Together a b c → ⊥
 not-aslant line (rising h k) (under l m) = omega (arith, line, product-lt l k, product-lt m h)
 not-aslant line (rising h k) (over l m) = omega (arith, line, product-lt l k, product-lt m h)
