@@ -10,6 +10,7 @@ use borrow.Author.Tests.{eqb-true, eq-eqb, ne-eqb}
 use Rattle.facts.specs.Tests.{same-truth}
 use Rattle.ground.specs.declared.Point.{Point}
 use Rattle.edge.specs.Edge.{Edge, edge, noLength}
+use Rattle.edge.specs.MissesLaws.{no-length}
 use Rattle.edge.specs.OnEdgeLaws.{Apart, apart-back}
 use Rattle.edge.specs.PartsLaws.{apart-or-one}
 use Rattle.boundary.specs.Boundary.{joined, withLength, edgesOf}
@@ -20,21 +21,17 @@ pub data Chain : Point → Point → List Edge → Type 0 where
   ended : {a : Point} → Chain a a []
   link : {a b c : Point} {es : List Edge} → Apart a b → Chain b c es → Chain a c (edge a b ∷ es)
 
--- An edge from a point to itself has no length
-no-length : (a : Point) → noLength (edge a a) ≡ true
-no-length a = ap₂ _&&_ (eq-eqb (a .lat .0) (a .lat .0) refl) (eq-eqb (a .lon .0) (a .lon .0) refl)
-
--- An edge between points that are apart has one
+-- An edge between points that are apart has a length
 has-length : {a b : Point} → Apart a b → noLength (edge a b) ≡ false
 has-length {a} {b} (inl h) = ap (λ (t : Bool). t && eqb (a .lon .0) (b .lon .0)) (ne-eqb (a .lat .0) (b .lat .0) h)
 has-length {a} {b} (inr h) =
     ap (λ (t : Bool). eqb (a .lat .0) (b .lat .0) && t) (ne-eqb (a .lon .0) (b .lon .0) h) ∙ and-false (eqb (a .lat .0) (b .lat .0))
 
--- so the one is dropped
+-- so an edge from a point to itself is dropped
 pub dropped : (a : Point) (es : List Edge) → withLength (edge a a ∷ es) ≡ withLength es
 dropped a es = ap (λ (t : Bool). cond t (withLength es) (edge a a ∷ withLength es)) (no-length a)
 
--- and the other kept
+-- and one between points that are apart kept
 pub kept : {a b : Point} → Apart a b → (es : List Edge) → withLength (edge a b ∷ es) ≡ edge a b ∷ withLength es
 kept {a} {b} h es = ap (λ (t : Bool). cond t (withLength es) (edge a b ∷ withLength es)) (has-length h)
 

@@ -183,6 +183,10 @@ one-point e h =
     let lon = eqb-true (e .start .lon .0) (e .end .lon .0) (ts .1) in
     λ i. record { lat = record { 0 = lat i }; lon = record { 0 = lon i } }
 
+-- and an edge from a point to itself has no length
+pub no-length : (a : Point) → noLength (edge a a) ≡ true
+no-length a = ap₂ _&&_ (eq-eqb (a .lat .0) (a .lat .0) refl) (eq-eqb (a .lon .0) (a .lon .0) refl)
+
 -- An edge of no length misses everything
 pub misses-one-point : (r : Rectangle) (a : Point) → misses (edge a a) r ≡ true
 unfolding misses leftOrOn

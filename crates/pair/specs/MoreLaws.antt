@@ -1,17 +1,18 @@
--- The laws of two edges of which one follows the other: when they share more than their corner, either way round, and what a point on one
--- of them changes. Assumes nothing.
+-- The laws of two edges of which one follows the other: when they share more than their corner, either way round, that they do not where
+-- they go on in a direction, and what a point on one of them changes. Assumes nothing.
 use Prim.Native.Nat.{ℕ, _+_, _*_, _≤_, _<_}
 use native.Mathlib.Omega.{arith}
 use mathlib.Core.Path.{_≡_, refl, ap, ap₂, sym, _∙_}
 use mathlib.Core.Logic.{_⊎_, inl, inr}
 use mathlib.Core.Bool.{Bool, true, false, _&&_, _||_, or-comm, true≢false}
 use lib.Dec.{ltb}
-use borrow.Author.Tests.{leb-true, le-leb, ltb-true, lt-ltb, eq-eqb}
+use borrow.Author.Tests.{leb-true, le-leb, ltb-true, lt-ltb}
 use Rattle.facts.specs.Tests.{both, either, either-left, either-right, same-truth}
 use Rattle.facts.specs.Numbers.{Compared, less, same, more, compared, product-lt, either-way}
 use Rattle.ground.specs.declared.Point.{Point}
 use Rattle.side.specs.Side.{leftSum, rightSum, leftOrOn}
-use Rattle.edge.specs.Edge.{edge, noLength, Between, OnEdge}
+use Rattle.edge.specs.Edge.{edge, Between, OnEdge}
+use Rattle.edge.specs.MissesLaws.{no-length}
 use Rattle.edge.specs.OnEdgeLaws.{on-other-way, SameSign, sign-other-way, sign-back, sign-lt, sign-none, Apart, apart-back, same-sign}
 use Rattle.pair.specs.Pair.{sharePoint, onOneLine, bothBeside, onSameSide, shareMore}
 use Rattle.pair.specs.PairLaws.{Way, up, across, along, either-along, between-along, Beside, below, above, onLeft, onRight, sided-so}
@@ -46,12 +47,17 @@ module _ (a b c : Point) where
   abbrev sameSide : Way → Bool
   sameSide w = bothBeside (along w a) (along w b) (along w c)
 
-  -- as the test says
+  -- Of two edges with a corner in common the test asks for one line and the same side
+  more-line : shareMore (edge a b) (edge b c) ≡ (onOneLine a b c && onSameSide a b c)
+  unfolding shareMore
+  more-line = ap (λ (t : Bool). t && onOneLine a b c && onSameSide a b c) (no-length b)
+
+  -- What the test says
   more-told : shareMore (edge a b) (edge b c) ≡ true → More a b c
-  unfolding shareMore leftOrOn
+  unfolding leftOrOn
   more-told t =
-      let ts = both (noLength (edge b b) && onOneLine a b c) (onSameSide a b c) t in
-      let ls = both (leftOrOn a b c) (leftOrOn b a c) (both (noLength (edge b b)) (onOneLine a b c) (ts .0) .1) in
+      let ts = both (onOneLine a b c) (onSameSide a b c) (sym more-line ∙ t) in
+      let ls = both (leftOrOn a b c) (leftOrOn b a c) (ts .0) in
       let h = leb-true (rightSum a b c) (leftSum a b c) (ls .0) in
       let k = leb-true (rightSum b a c) (leftSum b a c) (ls .1) in
       either-along (λ (w : Way). sameSide w ≡ true) (one (omega (arith, h, k))) (either (sameSide up) (sameSide across) (ts .1))
@@ -61,12 +67,9 @@ module _ (a b c : Point) where
 
   -- and the other way
   more-so : More a b c → shareMore (edge a b) (edge b c) ≡ true
-  unfolding shareMore leftOrOn
-  more-so m = ap₂ _&&_ (ap₂ _&&_ none line) (at (m .way) (m .beside))
+  unfolding leftOrOn
+  more-so m = more-line ∙ ap₂ _&&_ line (at (m .way) (m .beside))
     where
-      none : noLength (edge b b) ≡ true
-      none = ap₂ _&&_ (eq-eqb (b .lat .0) (b .lat .0) refl) (eq-eqb (b .lon .0) (b .lon .0) refl)
-
       line : onOneLine a b c ≡ true
       line =
           ap₂ _&&_ (le-leb (rightSum a b c) (leftSum a b c) (omega (arith, m .line)))
@@ -90,19 +93,63 @@ pub more-back : (a b c : Point) → shareMore (edge a b) (edge b c) ≡ shareMor
 more-back a b c =
     same-truth (λ t. more-so c b a (more-turned (more-told a b c t))) (λ t. more-so a b c (more-turned (more-told c b a t)))
 
+-- Edges that cannot share more than their corner do not
+more-not : (a b c : Point) → (More a b c → ⊥) → shareMore (edge a b) (edge b c) ≡ false
+more-not a b c none = at (shareMore (edge a b) (edge b c)) refl
+  where
+    at : (i : Bool) → shareMore (edge a b) (edge b c) ≡ i → shareMore (edge a b) (edge b c) ≡ false
+    at true t = absurd (none (more-told a b c t))
+    at false t = t
+
 -- The two parts of an edge share no more than the point between them
 pub more-none : {a p b : Point} → OnEdge a p b → shareMore (edge a p) (edge p b) ≡ false
-more-none {a} {p} {b} on = at (shareMore (edge a p) (edge p b)) refl
+more-none {a} {p} {b} on = more-not a p b (λ m. none (between-along (m .way) on) (m .beside))
   where
-    none : (a p b : ℕ) → Between a p b → Together a p b → ⊥
-    none a p b h (under k l) = omega arith
-    none a p b h (over k l) = omega arith
+    none : {a p b : ℕ} → Between a p b → Together a p b → ⊥
+    none h (under k l) = omega arith
+    none h (over k l) = omega arith
 
-    at : (i : Bool) → shareMore (edge a p) (edge p b) ≡ i → shareMore (edge a p) (edge p b) ≡ false
-    at true t =
-        let m = more-told a p b t in
-        absurd (none (along (m .way) a) (along (m .way) p) (along (m .way) b) (between-along (m .way) on) (m .beside))
-    at false t = t
+-- A number lies strictly between two others
+pub data Onward (a b c : ℕ) : Type 0 where
+  rising : a < b → b < c → Onward a b c
+  falling : c < b → b < a → Onward a b c
+
+-- as the test says
+pub onward : (a b c : ℕ) → (ltb a b && ltb b c || ltb c b && ltb b a) ≡ true → Onward a b c
+onward a b c t = at (either (ltb a b && ltb b c) (ltb c b && ltb b a) t)
+  where
+    at : ((ltb a b && ltb b c) ≡ true) ⊎ ((ltb c b && ltb b a) ≡ true) → Onward a b c
+    at (inl h) = let ts = both (ltb a b) (ltb b c) h in rising (ltb-true a b (ts .0)) (ltb-true b c (ts .1))
+    at (inr h) = let ts = both (ltb c b) (ltb b a) h in falling (ltb-true c b (ts .0)) (ltb-true b a (ts .1))
+
+-- A number between two others does not have them on the same side
+not-together : {a b c : ℕ} → Onward a b c → Together a b c → ⊥
+not-together (rising h k) (under l m) = omega arith
+not-together (rising h k) (over l m) = omega arith
+not-together (falling h k) (under l m) = omega arith
+not-together (falling h k) (over l m) = omega arith
+
+-- nor, on one line, does it in the other direction
+not-aslant : {a b c p q r : ℕ} → p * b + q * c + r * a ≡ q * a + r * b + p * c → Onward p q r → Together a b c → ⊥
+not-aslant line (rising h k) (under l m) = omega (arith, line, product-lt l k, product-lt m h)
+not-aslant line (rising h k) (over l m) = omega (arith, line, product-lt l k, product-lt m h)
+not-aslant line (falling h k) (under l m) = omega (arith, line, product-lt l h, product-lt m k)
+not-aslant line (falling h k) (over l m) = omega (arith, line, product-lt l h, product-lt m k)
+
+-- Edges that go on in a direction share no more than their corner
+pub more-onward : (a b c : Point) (w : Way) → Onward (along w a) (along w b) (along w c) → shareMore (edge a b) (edge b c) ≡ false
+more-onward a b c w on = more-not a b c (λ m. none (m .line) w (m .way) on (m .beside))
+  where
+    none : leftSum a b c ≡ rightSum a b c → (w v : Way) → Onward (along w a) (along w b) (along w c)
+        → Together (along v a) (along v b) (along v c) → ⊥
+    none line up up h k = not-together h k
+    none line up across h k = not-aslant (omega (arith, line)) h k
+    none line across up h k = not-aslant (omega (arith, line)) h k
+    none line across across h k = not-together h k
+
+-- nor do they lie on one line with their ends on the same side
+pub line-onward : (a b c : Point) (w : Way) → Onward (along w a) (along w b) (along w c) → (onOneLine a b c && onSameSide a b c) ≡ false
+line-onward a b c w on = sym (more-line a b c) ∙ more-onward a b c w on
 
 -- An edge that goes back over a part shares more with it
 returning : (a p b : ℕ) → Between a p b → (p ≡ b → ⊥) → Together p b a

@@ -53,11 +53,18 @@ pub fn share_point(a: Point, b: Point, c: Point, d: Point) -> bool
     !aside_of(c, d, a, b)
 }
 
+// Whether a is less than b, and c less than d.
+fn both_less(a: u32, b: u32, c: u32, d: u32) -> bool
+    ensures { λ r. ⌜ r ≡ (ltb a b && ltb c d) ⌝ }
+{
+    a < b && c < d
+}
+
 // Whether a and c lie both below b, or both above it.
 fn both_beside(a: u32, b: u32, c: u32) -> bool
     ensures { λ r. ⌜ r ≡ bothBeside a b c ⌝ }
 {
-    a < b && c < b || b < a && b < c
+    both_less(a, b, c, b) || both_less(b, a, b, c)
 }
 
 // Whether a and c lie on the same side of b, by one direction or the other.
@@ -71,7 +78,7 @@ fn on_same_side(a: Point, b: Point, c: Point) -> bool
 fn goes_on(a: u32, b: u32, c: u32) -> bool
     ensures { λ r. ⌜ r ≡ (ltb a b && ltb b c || ltb c b && ltb b a) ⌝ }
 {
-    a < b && b < c || c < b && b < a
+    both_less(a, b, b, c) || both_less(c, b, b, a)
 }
 
 // Whether a, b and c lie on one line.
@@ -85,7 +92,10 @@ fn on_one_line(a: Point, b: Point, c: Point) -> bool
 fn turns_back(a: Point, b: Point, c: Point) -> bool
     ensures { λ r. ⌜ r ≡ (onOneLine a b c && onSameSide a b c) ⌝ }
 {
-    if goes_on(a.lat.0, b.lat.0, c.lat.0) || goes_on(a.lon.0, b.lon.0, c.lon.0) {
+    if goes_on(a.lat.0, b.lat.0, c.lat.0) {
+        return false;
+    }
+    if goes_on(a.lon.0, b.lon.0, c.lon.0) {
         return false;
     }
     on_same_side(a, b, c) && on_one_line(a, b, c)
