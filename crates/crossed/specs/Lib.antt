@@ -5,3 +5,5 @@ pub mod RingLaws
 pub mod CrossedLaws
 pub mod Meeting
 pub mod MeetingLaws
+pub mod Runs
+pub mod Rows

@@ -6,14 +6,17 @@ use native.Mathlib.Omega.{arith}
 use mathlib.Core.Path.{_≡_, refl, ap, ap₂, _∙_, sym}
 use mathlib.Core.Bool.{Bool, true, false, cond, not, _&&_}
 use mathlib.Core.List.{List, [], _∷_}
+use lib.Dec.{eqb}
 use lib.ListN.{length, getD}
-use borrow.Author.Tests.{not-true}
+use borrow.Author.Tests.{not-true, eq-eqb}
 use Rattle.facts.specs.Tests.{both}
 use Rattle.edge.specs.Edge.{Edge, noLength}
 use Rattle.corners.specs.Corners.{cornersOf}
 use Rattle.boundary.specs.Boundary.{withLength, placesFrom}
 use Rattle.boundary.specs.Listed.{edgeFrom}
 use Rattle.boundary.specs.ListedLaws.{edgesAfter, edges-after, edges-over, all-places}
+use Rattle.pair.specs.Pair.{overlapping, sharePoint, shareMore}
+use Rattle.pair.specs.PairLaws.{fails-left, fails-right, apart-share, apart-more, overlapping-comm}
 use Rattle.crossed.specs.declared.Met.{Met}
 use Rattle.crossed.specs.declared.Met.the-variants.{Pair, Nowhere}
 use Rattle.crossed.specs.Crossed.{Placed, placed, placedOf, meet, orElse, firstLater, firstPair, pairOf}
@@ -126,7 +129,7 @@ module _ (numbers : List ℕ) where
 
   -- so the first pair is none of theirs
   try : (n i : ℕ) → n + i ≤ length numbers / 2 → Tried (n + i) → firstPair (from i) ≡ firstPair (from (n + i))
-  try zero i most h = refl
+  try zero i most h = ap (λ (x : ℕ). firstPair (from x)) (omega arith)
   try (suc n) i most h = at (noLength (edgeFrom numbers i)) refl ∙ try n (i + 1) (omega arith) (λ x l. h x (omega arith)) ∙ same
     where
       same : firstPair (from (n + (i + 1))) ≡ firstPair (from (suc n + i))
@@ -167,3 +170,37 @@ module _ (numbers : List ℕ) where
       (tried i (omega arith) before
       ∙ ap firstPair (from-first i (omega arith) (ls .0))
       ∙ ap (λ (m : Met). orElse m (firstPair (from (i + 1)))) later)
+
+  -- Edges whose extents are apart do not meet
+  pub apart-meeting : (i j : ℕ) → overlapping (edgeFrom numbers i) (edgeFrom numbers j) ≡ false → meeting numbers i j ≡ false
+  unfolding meeting meet
+  apart-meeting i j t =
+      let e = edgeFrom numbers i in
+      let f = edgeFrom numbers j in
+      fails-right (not (noLength e) && not (noLength f))
+      (either-case (eqb j (following numbers i)) (apart-more e f t)
+      (either-case (eqb i (following numbers j)) (apart-more f e (overlapping-comm f e ∙ t)) (apart-share e f t)))
+    where
+      either-case : (b : Bool) {c d : Bool} → c ≡ false → d ≡ false → cond b c d ≡ false
+      either-case true h k = h
+      either-case false h k = k
+
+  -- nor do the edge from a place and that from the next where these share no more than their corner
+  pub next-meeting : (i : ℕ) → i + 1 < length numbers / 2 → shareMore (edgeFrom numbers i) (edgeFrom numbers (i + 1)) ≡ false
+      → meeting numbers i (i + 1) ≡ false
+  unfolding meeting meet
+  next-meeting i less t = at (noLength f) refl
+    where
+      e : Edge
+      e = edgeFrom numbers i
+
+      f : Edge
+      f = edgeFrom numbers (i + 1)
+
+      at : (b : Bool) → noLength f ≡ b → (not (noLength e) && not (noLength f) && meet (placedAt numbers i) (placedAt numbers (i + 1))) ≡ false
+      at true l =
+          fails-left (meet (placedAt numbers i) (placedAt numbers (i + 1))) (fails-right (not (noLength e)) (ap not l))
+      at false l =
+          let here = start-here (i + 1) (startFrom numbers 0 0) less l in
+          fails-right (not (noLength e) && not (noLength f))
+          (ap (λ (b : Bool). cond b (shareMore e f) (cond (eqb i (following numbers (i + 1))) (shareMore f e) (sharePoint e f))) (eq-eqb (i + 1) (following numbers i) (sym here)) ∙ t)

@@ -1,19 +1,18 @@
 // Rows: each eight edges one after the other, with their extents from the south-west corner to the
 // north-east corner, and for a row the places where rows start whose extents are not apart from its own.
-ghost use Prim.Native.Nat.{_+_, _*_, _/_, _%_, _≤_, _<_, max};
+ghost use Prim.Native.Nat.{_+_, _*_, _/_, _%_, _≤_, _<_, min, max};
 ghost use mathlib.Core.Path.{_≡_};
 ghost use mathlib.Core.Bool.{_||_};
 ghost use lib.Dec.{ltb};
 ghost use lib.ListN.{length, getD};
-ghost use Rattle.ground.specs.Rectangles.{at};
 ghost use Rattle.edge.specs.Edge.{edge};
 ghost use Rattle.boundary.specs.Listed.{edgeIn};
 ghost use Rattle.crossed.specs.Rows.{lowest, highest, rowsOf, rowApart, RowsTo, Near, NearRow, Rooms};
+use crate::meeting::corner;
+use crate::meeting::end_of;
 use angles::greater;
 use angles::lesser;
 use boundary::put_edge;
-use crate::meeting::corner;
-use crate::meeting::end_of;
 use ground::Lat;
 use ground::Lon;
 use ground::Point;
@@ -38,10 +37,11 @@ fn high(a: Point, b: Point) -> Point
     }
 }
 
-// The end of a row: where the next starts, or the last edge.
+// The end of a row: where the next starts, or past the last edge.
 pub(crate) fn row_end(count: usize, row: usize) -> usize
     requires { ⌜ 8 * row < count ⌝ }
-    ensures { λ r. ⌜ (r ≤ count) × (r ≤ 8 * row + 8) ⌝ }
+    requires { ⌜ count < 9223372036854775808 ⌝ }
+    ensures { λ r. ⌜ r ≡ min count (8 * row + 8) ⌝ }
 {
     let end = 8 * row + 8;
     if count < end { count } else { end }
@@ -114,7 +114,12 @@ fn list_near(extents: &[u32], rows: usize, own: usize, near: &mut [usize])
     near[row] = first;
     while own < row {
         row -= 1;
-        if !row_apart(extents, corner(extents, 2 * own), corner(extents, 2 * own + 1), row) {
+        if !row_apart(
+            extents,
+            corner(extents, 2 * own),
+            corner(extents, 2 * own + 1),
+            row,
+        ) {
             first = 8 * row;
         }
         near[row] = first;
@@ -130,6 +135,6 @@ pub(crate) fn renew(numbers: &[u32], extents: &[u32], i: usize, near: &mut [usiz
     ensures { λ _. ⌜ NearRow (now (numbers .entry)) (now (near .exit)) (i / 8) ⌝ }
 {
     if i % 8 == 0 && 0 < near.len() {
-        list_near(extents, numbers.len() / 2 / 8 + 1, i / 8, near);
+        list_near(extents, (numbers.len() / 2 + 7) / 8, i / 8, near);
     }
 }

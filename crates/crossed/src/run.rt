@@ -48,12 +48,20 @@ fn course_end(numbers: &[u32], from: usize, course: Course) -> usize
 
 // North or south, as an edge goes.
 fn by_lat(a: Point, b: Point) -> Course {
-    if a.lat.0 < b.lat.0 { Course::North } else { Course::South }
+    if a.lat.0 < b.lat.0 {
+        Course::North
+    } else {
+        Course::South
+    }
 }
 
 // East or west.
 fn by_lon(a: Point, b: Point) -> Course {
-    if a.lon.0 < b.lon.0 { Course::East } else { Course::West }
+    if a.lon.0 < b.lon.0 {
+        Course::East
+    } else {
+        Course::West
+    }
 }
 
 // The end of the longer run of the edge from a place.

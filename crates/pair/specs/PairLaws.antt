@@ -15,15 +15,15 @@ use Rattle.edge.specs.MissesLaws.{one-point}
 use Rattle.pair.specs.Pair.{overlap, overlapping, asideOf, sharePoint, onOneLine, onSameSide, shareMore}
 
 -- Where two tests do not both pass, one of them does not
-one-fails : (a b : Bool) → (a && b) ≡ false → (a ≡ false) ⊎ (b ≡ false)
+pub one-fails : (a b : Bool) → (a && b) ≡ false → (a ≡ false) ⊎ (b ≡ false)
 one-fails true b e = inr e
 one-fails false b e = inl refl
 
 -- and where one does not, they do not both pass
-fails-left : {a : Bool} (b : Bool) → a ≡ false → (a && b) ≡ false
+pub fails-left : {a : Bool} (b : Bool) → a ≡ false → (a && b) ≡ false
 fails-left b e = ap (λ (t : Bool). t && b) e
 
-fails-right : (a : Bool) {b : Bool} → b ≡ false → (a && b) ≡ false
+pub fails-right : (a : Bool) {b : Bool} → b ≡ false → (a && b) ≡ false
 fails-right true e = e
 fails-right false e = refl
 
@@ -132,7 +132,7 @@ module _ (e f : Edge) where
   meeting w = overlap (along w (e .start)) (along w (e .end)) (along w (f .start)) (along w (f .end))
 
   -- Edges whose extents do not overlap are apart in a direction
-  clear-of : overlapping e f ≡ false → Clear e f
+  pub clear-of : overlapping e f ≡ false → Clear e f
   unfolding overlapping
   clear-of t = either-along (λ (w : Way). meeting w ≡ false) one (one-fails (meeting up) (meeting across) t)
     where
@@ -140,7 +140,7 @@ module _ (e f : Edge) where
       one w h = record { way = w; beside = beside-of (along w (e .start)) (along w (e .end)) (along w (f .start)) (along w (f .end)) h }
 
   -- and the other way
-  clear-so : Clear e f → overlapping e f ≡ false
+  pub clear-so : Clear e f → overlapping e f ≡ false
   unfolding overlapping
   clear-so h = at (h .way) (h .beside)
     where
