@@ -4,14 +4,14 @@ use native.Mathlib.Omega.{arith}
 use mathlib.Core.Path.{_≡_, refl, ap, ap₂, sym, _∙_}
 use mathlib.Core.Logic.{_⊎_, inl, inr}
 use mathlib.Core.Bool.{true, false, _&&_, _||_}
-use Rattle.facts.specs.Tests.{neither, none-of}
+use Rattle.facts.specs.Tests.{neither, none-of, same-failure}
 use Rattle.facts.specs.Numbers.{product-le, product-lt, either-way}
 use Rattle.ground.specs.declared.Point.{Point}
 use Rattle.side.specs.Side.{leftSum, rightSum}
 use Rattle.edge.specs.Edge.{Edge, edge, Between, OnEdge}
 use Rattle.edge.specs.OnEdgeLaws.{on-other-way, Apart, apart-back, same-left, same-left-back}
 use Rattle.pair.specs.Pair.{asideOf, sharePoint}
-use Rattle.pair.specs.PairLaws.{same-failure, Way, up, across, along, either-along, between-along}
+use Rattle.pair.specs.PairLaws.{Way, up, across, along, either-along, between-along}
 use Rattle.pair.specs.PairLaws.{Beside, below, above, beside-comm, beside-back, Clear, clear-back}
 use Rattle.pair.specs.PairLaws.{StrictlyLeft, Sided, onLeft, onRight, sided, sided-so, aside-back, aside-ends}
 use Rattle.pair.specs.PairLaws.{Unshared, clear, aside, asideBy, unshared, unshared-so, unshared-back}
