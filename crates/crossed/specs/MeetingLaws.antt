@@ -9,14 +9,14 @@ use mathlib.Core.List.{List, [], _∷_}
 use lib.Dec.{eqb}
 use lib.ListN.{length, getD}
 use borrow.Author.Tests.{not-true, eq-eqb}
-use Rattle.facts.specs.Tests.{both}
+use Rattle.facts.specs.Tests.{both, fails-left, fails-right}
 use Rattle.edge.specs.Edge.{Edge, noLength}
 use Rattle.corners.specs.Corners.{cornersOf}
 use Rattle.boundary.specs.Boundary.{withLength, placesFrom}
 use Rattle.boundary.specs.Listed.{edgeFrom}
 use Rattle.boundary.specs.ListedLaws.{edgesAfter, edges-after, edges-over, all-places}
 use Rattle.pair.specs.Pair.{overlapping, sharePoint, shareMore}
-use Rattle.pair.specs.PairLaws.{fails-left, fails-right, apart-share, apart-more, overlapping-comm}
+use Rattle.pair.specs.PairLaws.{apart-share, apart-more, overlapping-comm}
 use Rattle.crossed.specs.declared.Met.{Met}
 use Rattle.crossed.specs.declared.Met.the-variants.{Pair, Nowhere}
 use Rattle.crossed.specs.Crossed.{Placed, placed, placedOf, meet, orElse, firstLater, firstPair, pairOf}

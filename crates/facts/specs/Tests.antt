@@ -22,6 +22,19 @@ pub both-hold : (a b : Bool) → T (a && b) → T a × T b
 both-hold true b t = (tt, t)
 both-hold false b t = absurd t
 
+-- Where they do not both pass, one of them does not
+pub one-fails : (a b : Bool) → (a && b) ≡ false → (a ≡ false) ⊎ (b ≡ false)
+one-fails true b e = inr e
+one-fails false b e = inl refl
+
+-- and where one does not, they do not both pass
+pub fails-left : {a : Bool} (b : Bool) → a ≡ false → (a && b) ≡ false
+fails-left b e = ap (λ (t : Bool). t && b) e
+
+pub fails-right : (a : Bool) {b : Bool} → b ≡ false → (a && b) ≡ false
+fails-right true e = e
+fails-right false e = refl
+
 -- Where one of two passes, it is the first or the second
 pub either : (a b : Bool) → (a || b) ≡ true → (a ≡ true) ⊎ (b ≡ true)
 either true b e = inl refl
@@ -52,6 +65,15 @@ same-truth {a} {b} there back = at a b there back
     at true b there back = sym (there refl)
     at false true there back = back refl
     at false false there back = refl
+
+-- and so are two that fail together
+pub same-failure : {a b : Bool} → (a ≡ false → b ≡ false) → (b ≡ false → a ≡ false) → a ≡ b
+same-failure {a} {b} there back = at a b there back
+  where
+    at : (a b : Bool) → (a ≡ false → b ≡ false) → (b ≡ false → a ≡ false) → a ≡ b
+    at false b there back = sym (there refl)
+    at true false there back = back refl
+    at true true there back = refl
 
 -- One of two, and not both
 abbrev pub differ : Bool → Bool → Bool

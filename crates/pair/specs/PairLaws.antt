@@ -7,34 +7,12 @@ use mathlib.Core.Logic.{_⊎_, inl, inr}
 use mathlib.Core.Bool.{Bool, true, false, not, _&&_, _||_, and-comm, or-comm}
 use lib.Dec.{leb}
 use borrow.Author.Tests.{leb-false, lt-leb, ltb-true, lt-ltb, not-false}
-use Rattle.facts.specs.Tests.{both, either, either-left, either-right}
+use Rattle.facts.specs.Tests.{both, one-fails, fails-left, fails-right, either, either-left, either-right, same-failure}
 use Rattle.ground.specs.declared.Point.{Point}
 use Rattle.side.specs.Side.{leftSum, rightSum, left}
 use Rattle.edge.specs.Edge.{Edge, edge, noLength, Between, OnEdge}
 use Rattle.edge.specs.MissesLaws.{one-point}
 use Rattle.pair.specs.Pair.{overlap, overlapping, asideOf, sharePoint, onOneLine, onSameSide, shareMore}
-
--- Where two tests do not both pass, one of them does not
-pub one-fails : (a b : Bool) → (a && b) ≡ false → (a ≡ false) ⊎ (b ≡ false)
-one-fails true b e = inr e
-one-fails false b e = inl refl
-
--- and where one does not, they do not both pass
-pub fails-left : {a : Bool} (b : Bool) → a ≡ false → (a && b) ≡ false
-fails-left b e = ap (λ (t : Bool). t && b) e
-
-pub fails-right : (a : Bool) {b : Bool} → b ≡ false → (a && b) ≡ false
-fails-right true e = e
-fails-right false e = refl
-
--- Two tests that fail together are the same
-pub same-failure : {a b : Bool} → (a ≡ false → b ≡ false) → (b ≡ false → a ≡ false) → a ≡ b
-same-failure {a} {b} there back = at a b there back
-  where
-    at : (a b : Bool) → (a ≡ false → b ≡ false) → (b ≡ false → a ≡ false) → a ≡ b
-    at false b there back = sym (there refl)
-    at true false there back = back refl
-    at true true there back = refl
 
 -- The two directions, and how far along one a point is
 pub data Way : Type 0 where

@@ -4,14 +4,14 @@ use native.Mathlib.Omega.{arith}
 use mathlib.Core.Path.{_≡_, refl, ap, ap₂, sym, _∙_}
 use mathlib.Core.Logic.{_⊎_, inl, inr}
 use mathlib.Core.Bool.{true, false, _&&_, _||_}
-use Rattle.facts.specs.Tests.{neither, none-of}
+use Rattle.facts.specs.Tests.{neither, none-of, same-failure}
 use Rattle.facts.specs.Numbers.{product-le, product-lt, either-way}
 use Rattle.ground.specs.declared.Point.{Point}
 use Rattle.side.specs.Side.{leftSum, rightSum}
 use Rattle.edge.specs.Edge.{Edge, edge, Between, OnEdge}
 use Rattle.edge.specs.OnEdgeLaws.{on-other-way, Apart, apart-back, same-left, same-left-back}
 use Rattle.pair.specs.Pair.{asideOf, sharePoint}
-use Rattle.pair.specs.PairLaws.{same-failure, Way, up, across, along, either-along, between-along}
+use Rattle.pair.specs.PairLaws.{Way, up, across, along, either-along, between-along}
 use Rattle.pair.specs.PairLaws.{Beside, below, above, beside-comm, beside-back, Clear, clear-back}
 use Rattle.pair.specs.PairLaws.{StrictlyLeft, Sided, onLeft, onRight, sided, sided-so, aside-back, aside-ends}
 use Rattle.pair.specs.PairLaws.{Unshared, clear, aside, asideBy, unshared, unshared-so, unshared-back}
@@ -115,27 +115,27 @@ beside-both (above h) (below k) = let none : ⊥ = omega arith in absurd none
 beside-both (above h) (above k) = above (omega arith)
 
 -- From a to b it goes the way that it goes from p to both c and d
-data Onward (a b p c d : ℕ) : Type 0 where
-  rising : a < b → p < c → p < d → Onward a b p c d
-  falling : b < a → c < p → d < p → Onward a b p c d
+data Towards (a b p c d : ℕ) : Type 0 where
+  rising : a < b → p < c → p < d → Towards a b p c d
+  falling : b < a → c < p → d < p → Towards a b p c d
 
 -- as it does where a and p are beside an extent and a and b are not
-onward : (a p b c d : ℕ) → Beside a p c d → Beside a b c d ⊎ Onward a b p c d
-onward a p b c d (below h) = at (either-way (min c d) b)
+towards : (a p b c d : ℕ) → Beside a p c d → Beside a b c d ⊎ Towards a b p c d
+towards a p b c d (below h) = at (either-way (min c d) b)
   where
-    at : (min c d ≤ b) ⊎ (b < min c d) → Beside a b c d ⊎ Onward a b p c d
+    at : (min c d ≤ b) ⊎ (b < min c d) → Beside a b c d ⊎ Towards a b p c d
     at (inl k) = inr (rising (omega arith) (omega arith) (omega arith))
     at (inr k) = inl (below (omega arith))
-onward a p b c d (above h) = at (either-way b (max c d))
+towards a p b c d (above h) = at (either-way b (max c d))
   where
-    at : (b ≤ max c d) ⊎ (max c d < b) → Beside a b c d ⊎ Onward a b p c d
+    at : (b ≤ max c d) ⊎ (max c d < b) → Beside a b c d ⊎ Towards a b p c d
     at (inl k) = inr (falling (omega arith) (omega arith) (omega arith))
     at (inr k) = inl (above (omega arith))
 
 module _ {a p b : Point} {f : Edge} (on : OnEdge a p b) where
   -- Where an edge's line goes so in one direction and back in the other, the other edge is on one side of it
-  turning : Onward (a .lon .0) (b .lon .0) (p .lon .0) (f .start .lon .0) (f .end .lon .0)
-      → Onward (b .lat .0) (a .lat .0) (p .lat .0) (f .start .lat .0) (f .end .lat .0) → Sided (edge a b) f
+  turning : Towards (a .lon .0) (b .lon .0) (p .lon .0) (f .start .lon .0) (f .end .lon .0)
+      → Towards (b .lat .0) (a .lat .0) (p .lat .0) (f .start .lat .0) (f .end .lat .0) → Sided (edge a b) f
   turning (rising h i j) (rising k m n) =
       onLeft (omega (arith, on .line, product-lt h m, product-lt k i)) (omega (arith, on .line, product-lt h n, product-lt k j))
   turning (rising h i j) (falling k m n) =
@@ -149,13 +149,13 @@ module _ {a p b : Point} {f : Edge} (on : OnEdge a p b) where
   crosswise : Beside (a .lon .0) (p .lon .0) (f .start .lon .0) (f .end .lon .0)
       → Beside (b .lat .0) (p .lat .0) (f .start .lat .0) (f .end .lat .0) → Unshared (edge a b) f
   crosswise h k =
-      at (onward (a .lon .0) (p .lon .0) (b .lon .0) (f .start .lon .0) (f .end .lon .0) h)
-      (onward (b .lat .0) (p .lat .0) (a .lat .0) (f .start .lat .0) (f .end .lat .0) k)
+      at (towards (a .lon .0) (p .lon .0) (b .lon .0) (f .start .lon .0) (f .end .lon .0) h)
+      (towards (b .lat .0) (p .lat .0) (a .lat .0) (f .start .lat .0) (f .end .lat .0) k)
     where
       at : Beside (a .lon .0) (b .lon .0) (f .start .lon .0) (f .end .lon .0)
-          ⊎ Onward (a .lon .0) (b .lon .0) (p .lon .0) (f .start .lon .0) (f .end .lon .0)
+          ⊎ Towards (a .lon .0) (b .lon .0) (p .lon .0) (f .start .lon .0) (f .end .lon .0)
           → Beside (b .lat .0) (a .lat .0) (f .start .lat .0) (f .end .lat .0)
-          ⊎ Onward (b .lat .0) (a .lat .0) (p .lat .0) (f .start .lat .0) (f .end .lat .0)
+          ⊎ Towards (b .lat .0) (a .lat .0) (p .lat .0) (f .start .lat .0) (f .end .lat .0)
           → Unshared (edge a b) f
       at (inl l) m = clear (record { way = across; beside = l })
       at (inr l) (inl m) = clear (record { way = up; beside = beside-back m })

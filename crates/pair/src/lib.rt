@@ -88,7 +88,8 @@ fn on_one_line(a: Point, b: Point, c: Point) -> bool
     !left(b, a, c) && !left(a, b, c)
 }
 
-// Whether the way from a over b to c turns back on one line at b.
+// Whether the way from a over b to c turns back on one line at b. Where it goes on in a direction it does
+// not, and needs no product.
 fn turns_back(a: Point, b: Point, c: Point) -> bool
     ensures { λ r. ⌜ r ≡ (onOneLine a b c && onSameSide a b c) ⌝ }
 {
