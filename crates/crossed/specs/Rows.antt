@@ -177,6 +177,10 @@ near-row {numbers} {extents} {near} {own} rows n = record {
       (held-clear d (edgeFrom numbers x) (edgeFrom numbers y) mine (row-clear d (edgeIn extents (y / 8)) (edgeFrom numbers y) apart theirs));
 }
 
+-- What is near the row of a place is told where the place does not start it
+abbrev pub StillNear : List ℕ → List ℕ → ℕ → Type 0
+StillNear numbers near i = (i % 8 ≡ 0 → ⊥) → NearRow numbers near (i / 8)
+
 -- Without rows nothing is told
 pub near-none : (numbers near : List ℕ) (own : ℕ) → length near ≡ 0 → NearRow numbers near own
 near-none numbers [] own e = record { clear = λ x from y h i k l m o. let none : ⊥ = omega arith in absurd none }

@@ -1,6 +1,6 @@
 // The leap: the next later edge whose extents are not apart from those of an edge, by rows where there are
 // rooms for them.
-ghost use Prim.Native.Nat.{_/_, _≤_, _<_, max};
+ghost use Prim.Native.Nat.{_+_, _*_, _/_, _≤_, _<_, max};
 ghost use mathlib.Core.Path.{_≡_};
 ghost use lib.ListN.{length, getD};
 ghost use Rattle.edge.specs.Edge.{edge};

@@ -1,13 +1,13 @@
 // Rows: each eight edges one after the other, with their extents from the south-west corner to the
 // north-east corner, and for a row the places where rows start whose extents are not apart from its own.
-ghost use Prim.Native.Nat.{_+_, _*_, _/_, _%_, _≤_, _<_, min, max};
+ghost use Prim.Native.Nat.{_+_, _*_, _/_, _≤_, _<_, min, max};
 ghost use mathlib.Core.Path.{_≡_};
 ghost use mathlib.Core.Bool.{_||_};
 ghost use lib.Dec.{ltb};
 ghost use lib.ListN.{length, getD};
 ghost use Rattle.edge.specs.Edge.{edge};
 ghost use Rattle.boundary.specs.Listed.{edgeIn};
-ghost use Rattle.crossed.specs.Rows.{lowest, highest, rowsOf, rowApart, RowsTo, Near, NearRow, Rooms};
+ghost use Rattle.crossed.specs.Rows.{lowest, highest, rowsOf, rowApart, RowsTo, Near, NearRow, StillNear, Rooms};
 use crate::meeting::corner;
 use crate::meeting::end_of;
 use angles::greater;
@@ -130,7 +130,7 @@ fn list_near(extents: &[u32], rows: usize, own: usize, near: &mut [usize])
 pub(crate) fn renew(numbers: &[u32], extents: &[u32], i: usize, near: &mut [usize])
     requires { ⌜ i < length (now numbers) / 2 ⌝ }
     requires { ⌜ Rooms (now numbers) (now extents) (length (now near)) ⌝ }
-    requires { ⌜ (i % 8 ≡ 0 → ⊥) → NearRow (now numbers) (now near) (i / 8) ⌝ }
+    requires { ⌜ StillNear (now numbers) (now near) i ⌝ }
     ensures { λ _. ⌜ length (now (near .exit)) ≡ length (now (near .entry)) ⌝ }
     ensures { λ _. ⌜ NearRow (now (numbers .entry)) (now (near .exit)) (i / 8) ⌝ }
 {

@@ -110,7 +110,7 @@ module _ (e f : Edge) where
   meeting w = overlap (along w (e .start)) (along w (e .end)) (along w (f .start)) (along w (f .end))
 
   -- Edges whose extents do not overlap are apart in a direction
-  pub clear-of : overlapping e f ≡ false → Clear e f
+  clear-of : overlapping e f ≡ false → Clear e f
   unfolding overlapping
   clear-of t = either-along (λ (w : Way). meeting w ≡ false) one (one-fails (meeting up) (meeting across) t)
     where
