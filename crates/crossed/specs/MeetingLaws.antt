@@ -8,12 +8,12 @@ use mathlib.Core.Bool.{Bool, true, false, cond, not, _&&_}
 use mathlib.Core.List.{List, [], _∷_}
 use lib.Dec.{eqb}
 use lib.ListN.{length, getD}
-use borrow.Author.Tests.{not-true, eq-eqb}
+use borrow.Author.Tests.{not-true, eq-eqb, ne-eqb, eqb-false}
 use Rattle.facts.specs.Tests.{both, fails-left, fails-right}
 use Rattle.edge.specs.Edge.{Edge, noLength}
 use Rattle.corners.specs.Corners.{cornersOf}
 use Rattle.boundary.specs.Boundary.{withLength, placesFrom}
-use Rattle.boundary.specs.Listed.{edgeFrom}
+use Rattle.boundary.specs.Listed.{placeAfter, edgeFrom}
 use Rattle.boundary.specs.ListedLaws.{edgesAfter, edges-after, edges-over, all-places}
 use Rattle.pair.specs.Pair.{overlapping, sharePoint, shareMore}
 use Rattle.pair.specs.PairLaws.{apart-share, apart-more, overlapping-comm}
@@ -21,6 +21,14 @@ use Rattle.crossed.specs.declared.Met.{Met}
 use Rattle.crossed.specs.declared.Met.the-variants.{Pair, Nowhere}
 use Rattle.crossed.specs.Crossed.{Placed, placed, placedOf, meet, orElse, firstLater, firstPair, pairOf}
 use Rattle.crossed.specs.Meeting.{startFrom, following, placedAt, meeting}
+
+-- The place after one of so many is one of them
+pub after-within : (count i : ℕ) → i < count → placeAfter count i < count
+after-within count i h = at (eqb (i + 1) count) refl
+  where
+    at : (b : Bool) → eqb (i + 1) count ≡ b → cond b 0 (i + 1) < count
+    at true e = omega arith
+    at false e = let k = eqb-false (i + 1) count e in omega (arith, k)
 
 module _ (numbers : List ℕ) where
   -- The edge from a place starts there if it has a length, else the first from the next place on
@@ -84,6 +92,22 @@ module _ (numbers : List ℕ) where
     unfolding startFrom
     from-first = by-length false
 
+  -- What is asked of two edges: of one that follows the other, of one that the other follows, and of any other two
+  pub meet-after : (i j : ℕ) → j ≡ following numbers i
+      → shareMore (edgeFrom numbers i) (edgeFrom numbers j) ≡ meet (placedAt numbers i) (placedAt numbers j)
+  unfolding meet
+  meet-after i j e = rw (eq-eqb j (following numbers i) e)
+
+  pub meet-before : (i j : ℕ) → (j ≡ following numbers i → ⊥) → i ≡ following numbers j
+      → shareMore (edgeFrom numbers j) (edgeFrom numbers i) ≡ meet (placedAt numbers i) (placedAt numbers j)
+  unfolding meet
+  meet-before i j n e = rw (ne-eqb j (following numbers i) n, eq-eqb i (following numbers j) e)
+
+  pub meet-beside : (i j : ℕ) → (j ≡ following numbers i → ⊥) → (i ≡ following numbers j → ⊥)
+      → sharePoint (edgeFrom numbers i) (edgeFrom numbers j) ≡ meet (placedAt numbers i) (placedAt numbers j)
+  unfolding meet
+  meet-beside i j n m = rw (ne-eqb j (following numbers i) n, ne-eqb i (following numbers j) m)
+
   -- Where the edges from two places meet, both have a length
   lengths : (i j : ℕ) → meeting numbers i j ≡ true
       → (noLength (edgeFrom numbers i) ≡ false) × ((noLength (edgeFrom numbers j) ≡ false) × (meet (placedAt numbers i) (placedAt numbers j) ≡ true))
@@ -95,12 +119,22 @@ module _ (numbers : List ℕ) where
       let ls = both first second (ts .0) in
       (not-true (noLength (edgeFrom numbers i)) (ls .0), (not-true (noLength (edgeFrom numbers j)) (ls .1), ts .1))
 
-  -- What the test says of two edges that have a length
-  meets-not : (i j : ℕ) → noLength (edgeFrom numbers i) ≡ false → noLength (edgeFrom numbers j) ≡ false → meeting numbers i j ≡ false
-      → meet (placedAt numbers i) (placedAt numbers j) ≡ false
+  -- What is asked of two edges that have a length
+  pub meeting-so : (i j : ℕ) → noLength (edgeFrom numbers i) ≡ false → noLength (edgeFrom numbers j) ≡ false
+      → meet (placedAt numbers i) (placedAt numbers j) ≡ meeting numbers i j
   unfolding meeting
-  meets-not i j e k t =
-      sym (ap₂ (λ (a b : Bool). not a && not b && meet (placedAt numbers i) (placedAt numbers j)) e k) ∙ t
+  meeting-so i j e k = sym (ap₂ (λ (a b : Bool). not a && not b && meet (placedAt numbers i) (placedAt numbers j)) e k)
+
+  -- An edge of no length meets none
+  pub meeting-first : (i j : ℕ) → noLength (edgeFrom numbers i) ≡ true → false ≡ meeting numbers i j
+  unfolding meeting
+  meeting-first i j e =
+      sym (ap (λ (b : Bool). not b && not (noLength (edgeFrom numbers j)) && meet (placedAt numbers i) (placedAt numbers j)) e)
+
+  pub meeting-second : (i j : ℕ) → noLength (edgeFrom numbers j) ≡ true → false ≡ meeting numbers i j
+  unfolding meeting
+  meeting-second i j e =
+      sym (fails-left (meet (placedAt numbers i) (placedAt numbers j)) (fails-right (not (noLength (edgeFrom numbers i))) (ap not e)))
 
   -- No edge from a place to another meets one
   abbrev pub Passed : ℕ → ℕ → ℕ → Type 0
@@ -121,7 +155,7 @@ module _ (numbers : List ℕ) where
       at true l = ap (firstLater (placedAt numbers i)) (from-skip j less l)
       at false l =
           ap (firstLater (placedAt numbers i)) (from-first j less l)
-          ∙ ap (λ (b : Bool). cond b (Pair i j) (firstLater (placedAt numbers i) (from (j + 1)))) (meets-not i j e l (h j (omega arith) (omega arith)))
+          ∙ ap (λ (b : Bool). cond b (Pair i j) (firstLater (placedAt numbers i) (from (j + 1)))) (meeting-so i j e l ∙ h j (omega arith) (omega arith))
 
   -- No edge before a place meets a later one
   abbrev pub Tried : ℕ → Type 0
@@ -197,10 +231,8 @@ module _ (numbers : List ℕ) where
       f : Edge
       f = edgeFrom numbers (i + 1)
 
-      at : (b : Bool) → noLength f ≡ b → (not (noLength e) && not (noLength f) && meet (placedAt numbers i) (placedAt numbers (i + 1))) ≡ false
-      at true l =
-          fails-left (meet (placedAt numbers i) (placedAt numbers (i + 1))) (fails-right (not (noLength e)) (ap not l))
+      at : (b : Bool) → noLength f ≡ b → meeting numbers i (i + 1) ≡ false
+      at true l = sym (meeting-second i (i + 1) l)
       at false l =
-          let here = start-here (i + 1) (startFrom numbers 0 0) less l in
           fails-right (not (noLength e) && not (noLength f))
-          (ap (λ (b : Bool). cond b (shareMore e f) (cond (eqb i (following numbers (i + 1))) (shareMore f e) (sharePoint e f))) (eq-eqb (i + 1) (following numbers i) (sym here)) ∙ t)
+          (sym (meet-after i (i + 1) (sym (start-here (i + 1) (startFrom numbers 0 0) less l))) ∙ t)

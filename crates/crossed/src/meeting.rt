@@ -104,5 +104,11 @@ pub(crate) fn meeting(numbers: &[u32], i: usize, j: usize) -> bool
     requires { ⌜ j < length (now numbers) / 2 ⌝ }
     ensures { λ r. ⌜ r ≡ Meeting·meeting (now (numbers .entry)) i j ⌝ }
 {
-    has_length(numbers, i) && has_length(numbers, j) && meet(numbers, i, j)
+    if !has_length(numbers, i) {
+        return false;
+    }
+    if !has_length(numbers, j) {
+        return false;
+    }
+    meet(numbers, i, j)
 }

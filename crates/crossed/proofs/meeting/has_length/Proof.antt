@@ -1,27 +1,25 @@
+-- `crossed::meeting::has_length` meets its contract, by the two ends. Assumes nothing.
+use mathlib.Core.Path.{ap₂, _∙_}
+use mathlib.Core.Bool.{not}
 use borrow.Author.Needs.{needs}
+use Rattle.ground.specs.declared.Point.{Point}
+use Rattle.edge.specs.Edge.{edge, noLength}
 use Rattle.crossed.proofs.meeting.has_length.Statement.{statement}
 use Rattle.crossed.proofs.meeting.has_length.Tie as tie
-use Rattle.crossed.proofs.meeting.has_length.Reads as reads
-use Rattle.crossed.proofs.meeting.has_length.Lts as lts
-use Rattle.crossed.proofs.meeting.apart.Reads as apart-reads
-use Rattle.crossed.proofs.meeting.corner.Reads as corner-reads
-use Rattle.crossed.proofs.meeting.end_of.Reads as end-of-reads
 
--- src/meeting.rt:56:11
 corner-requires : tie.Need-corner-requires
 corner-requires c κs = search needs
 
--- src/meeting.rt:56:31
 end-of-requires : tie.Need-end-of-requires
 end-of-requires c κs = search needs
 
--- src/meeting.rt:56:5
 apart-requires : tie.Need-apart-requires
 apart-requires c κs = search needs
 
--- src/meeting.rt:52:1
 returns : tie.Need-returns
-returns c = ?
+returns c =
+    c .apart .ensures
+    ∙ ap₂ (λ (a b : Point). not (noLength (edge a b))) (c .before .before .corner .ensures) (c .before .end-of .ensures)
 
 pub has-length-spec : {M : Type 1} → statement M
 has-length-spec = tie.close (tie.spec corner-requires end-of-requires apart-requires returns)

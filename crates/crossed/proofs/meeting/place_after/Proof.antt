@@ -1,20 +1,17 @@
+-- `crossed::meeting::place_after` meets its contract: by whether it is the last. Assumes nothing.
+use borrow.Author.Tests.{eq-eqb, ne-eqb}
 use borrow.Author.Needs.{needs}
 use Rattle.crossed.proofs.meeting.place_after.Statement.{statement}
 use Rattle.crossed.proofs.meeting.place_after.Tie as tie
-use Rattle.crossed.proofs.meeting.place_after.Reads as reads
-use Rattle.crossed.proofs.meeting.place_after.Lts as lts
 
--- src/meeting.rt:32:17
 add-after : tie.Need-add-after
 add-after c = search needs
 
--- src/meeting.rt:28:1
 returns : tie.Need-returns
-returns c = ?
+returns c = rw (eq-eqb _ _ (c .if1 .taken))
 
--- src/meeting.rt:28:1
 returns-2 : tie.Need-returns-2
-returns-2 c = ?
+returns-2 c = rw (ne-eqb _ _ (c .if1 .left))
 
 pub place-after-spec : {M : Type 1} → statement M
 place-after-spec = tie.close (tie.spec add-after returns returns-2)
