@@ -4,11 +4,13 @@ use native.Mathlib.Nat.{eq-or-lt-of-le}
 use native.Mathlib.Omega.{arith}
 use mathlib.Core.Path.{_≡_, ap, _∙_, sym, subst}
 use mathlib.Core.Logic.{_⊎_, inl, inr}
-use mathlib.Core.Bool.{Bool, true, false, cond}
+use mathlib.Core.Bool.{Bool, true, false, cond, _&&_}
 use mathlib.Core.List.{List}
 use lib.Dec.{ltb}
 use lib.ListN.{length}
 use borrow.Author.Tests.{ltb-true, ne-eqb}
+use Rattle.facts.specs.Tests.{both}
+use Rattle.facts.specs.Numbers.{either-way}
 use Rattle.ground.specs.declared.Point.{Point}
 use Rattle.edge.specs.Edge.{Edge, edge}
 use Rattle.corners.specs.Corners.{cornerAt}
@@ -79,6 +81,25 @@ module _ (numbers : List ℕ) where
   ends-at x less =
       ap (λ (b : Bool). cornerAt numbers (cond b 0 (x + 1))) (ne-eqb (x + 1) (length numbers / 2) (λ e. omega arith))
 
+  -- No edge is between a place and one that is not after it
+  pub going-none : (course : Course) {from to : ℕ} → to ≤ from → to ≤ length numbers / 2 → Going numbers course from to
+  going-none course h k = record { within = k; goes = λ x l m. let none : ⊥ = omega arith in absurd none }
+
+  -- One edge more goes on the course
+  pub going-more : (course : Course) {from to : ℕ} → Going numbers course from to → to < length numbers / 2
+      → toward course (edgeFrom numbers to .start) (edgeFrom numbers to .end) ≡ true → Going numbers course from (to + 1)
+  going-more course {from} {to} g less t = record { within = omega arith; goes = goes }
+    where
+      goes : (x : ℕ) → from ≤ x → x < to + 1 → Toward course (edgeFrom numbers x .start) (edgeFrom numbers x .end)
+      goes x h k = at (either-way to x)
+        where
+          at : (to ≤ x) ⊎ (x < to) → Toward course (edgeFrom numbers x .start) (edgeFrom numbers x .end)
+          at (inl l) =
+              let same : to ≡ x = omega arith in
+              subst (λ (y : ℕ). Toward course (edgeFrom numbers y .start) (edgeFrom numbers y .end)) same
+              (toward-so course (edgeFrom numbers to .start) (edgeFrom numbers to .end) t)
+          at (inr l) = g .goes x h l
+
   module _ (course : Course) (from to : ℕ) (g : Going numbers course from to) where
     -- The edge from the place after next and each later one start further on than an edge ends
     further : (n x : ℕ) → from ≤ x → x + 1 + suc n < to
@@ -124,3 +145,17 @@ module _ (numbers : List ℕ) where
             at (inr m) =
                 let same : x + 1 + suc (y - (x + 2)) ≡ y = omega arith in
                 subst (λ (z : ℕ). meeting numbers x z ≡ false) same (later (y - (x + 2)) x h (omega arith))
+
+  -- There is but one edge from a place to the next, so no two meet
+  pub one-free : (i : ℕ) → i < length numbers / 2 → Free numbers i (i + 1)
+  one-free i less = record { within = omega arith; free = λ x y h k l. let none : ⊥ = omega arith in absurd none }
+
+  -- nor do the two to the place after it where the way over their corners keeps to a course
+  pub two-free : (course : Course) (i : ℕ) → i + 1 < length numbers / 2
+      → (toward course (cornerAt numbers i) (cornerAt numbers (i + 1)) && toward course (cornerAt numbers (i + 1)) (edgeFrom numbers (i + 1) .end)) ≡ true
+      → Free numbers i (i + 1 + 1)
+  two-free course i less t =
+      let ts = both (toward course (cornerAt numbers i) (cornerAt numbers (i + 1))) (toward course (cornerAt numbers (i + 1)) (edgeFrom numbers (i + 1) .end)) t in
+      let none : Going numbers course i i = going-none course (omega arith) (omega arith) in
+      let one = going-more course none (omega arith) (ap (toward course (cornerAt numbers i)) (ends-at i less) ∙ ts .0) in
+      run-free course i (i + 1 + 1) (going-more course one less (ts .1))

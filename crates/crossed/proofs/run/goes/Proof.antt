@@ -1,40 +1,42 @@
+-- `crossed::run::goes` meets its contract: by the course. Assumes nothing.
+use mathlib.Core.Path.{ap, sym}
+use Rattle.crossed.specs.declared.run.Course.{Course}
+use Rattle.crossed.specs.Runs.{toward}
 use borrow.Author.Needs.{needs}
 use Rattle.crossed.proofs.run.goes.Statement.{statement}
 use Rattle.crossed.proofs.run.goes.Tie as tie
-use Rattle.crossed.proofs.run.goes.Reads as reads
-use Rattle.crossed.proofs.run.goes.Lts as lts
 
--- src/run.rt:27:26
 enum-told : tie.Need-enum-told
 enum-told c = search needs
 
--- src/run.rt:28:26
 enum-told-2 : tie.Need-enum-told-2
 enum-told-2 c = search needs
 
--- src/run.rt:29:25
 enum-told-3 : tie.Need-enum-told-3
 enum-told-3 c = search needs
 
--- src/run.rt:30:25
 enum-told-4 : tie.Need-enum-told-4
 enum-told-4 c = search needs
 
--- src/run.rt:23:1
 returns : tie.Need-returns
-returns c = ?
+returns c =
+    let a = c .before .before .before .before .args in
+    sym (ap (λ (k : Course). toward k (a .a) (a .b)) (c .before .before .enum-told .given .1))
 
--- src/run.rt:23:1
 returns-2 : tie.Need-returns-2
-returns-2 c = ?
+returns-2 c =
+    let a = c .before .before .before .before .args in
+    sym (ap (λ (k : Course). toward k (a .a) (a .b)) (c .before .before .enum-told2 .given .1))
 
--- src/run.rt:23:1
 returns-3 : tie.Need-returns-3
-returns-3 c = ?
+returns-3 c =
+    let a = c .before .before .before .before .args in
+    sym (ap (λ (k : Course). toward k (a .a) (a .b)) (c .before .before .enum-told3 .given .1))
 
--- src/run.rt:23:1
 returns-4 : tie.Need-returns-4
-returns-4 c = ?
+returns-4 c =
+    let a = c .before .before .before .before .args in
+    sym (ap (λ (k : Course). toward k (a .a) (a .b)) (c .before .before .enum-told4 .given .1))
 
 pub goes-spec : {M : Type 1} → statement M
 goes-spec =
