@@ -7,3 +7,4 @@ pub mod Meeting
 pub mod MeetingLaws
 pub mod Runs
 pub mod Rows
+pub mod Searching
