@@ -1,54 +1,57 @@
+-- `crossed::leap::lons_overlap` meets its contract: the place after one of so many is one of them. Assumes nothing.
+use Prim.Native.Nat.{_+_, _*_, _/_, _<_}
+use mathlib.Core.Path.{ap, sym, subst, _∙_}
+use lib.ListN.{length, getD}
 use borrow.Author.Needs.{needs}
+use Rattle.pair.specs.Pair.{overlap}
+use Rattle.crossed.specs.MeetingLaws.{after-within}
 use Rattle.crossed.proofs.leap.lons_overlap.Statement.{statement}
 use Rattle.crossed.proofs.leap.lons_overlap.Tie as tie
-use Rattle.crossed.proofs.leap.lons_overlap.Reads as reads
-use Rattle.crossed.proofs.leap.lons_overlap.Lts as lts
-use Rattle.crossed.proofs.meeting.place_after.Reads as place-after-reads
-use Rattle.pair.proofs.overlap.Reads as overlap-reads
 
--- src/leap.rt:31:9
+-- The place after is one of the places
+within : (c : tie.After-place-after) → c .place-after .result < length (c .before .before .args .numbers .now) / 2
+within c =
+    let start = c .before .before in
+    subst (λ i. i < length (start .args .numbers .now) / 2) (sym (c .place-after .ensures))
+    (after-within (length (start .args .numbers .now) / 2) (start .args .j) (start .pre))
+
 place-after-requires : tie.Need-place-after-requires
 place-after-requires c κs = search needs
 
--- src/leap.rt:32:45
 mul-overlap : tie.Need-mul-overlap
 mul-overlap c = search needs
 
--- src/leap.rt:32:45
 add-overlap : tie.Need-add-overlap
 add-overlap c = search needs
 
--- src/leap.rt:32:37
 mul-overlap-2 : tie.Need-mul-overlap-2
 mul-overlap-2 c = search needs
 
--- src/leap.rt:32:37
 shared-slice-read-overlap : tie.Need-shared-slice-read-overlap
 shared-slice-read-overlap c = search needs
 
--- src/leap.rt:32:65
 mul-overlap-3 : tie.Need-mul-overlap-3
-mul-overlap-3 c = ?
+mul-overlap-3 c = search (needs, within (c .before))
 
--- src/leap.rt:32:65
 add-overlap-2 : tie.Need-add-overlap-2
-add-overlap-2 c = ?
+add-overlap-2 c = search (needs, within (c .before))
 
--- src/leap.rt:32:57
 mul-overlap-4 : tie.Need-mul-overlap-4
-mul-overlap-4 c = ?
+mul-overlap-4 c = search (needs, within (c .before))
 
--- src/leap.rt:32:57
 shared-slice-read-overlap-2 : tie.Need-shared-slice-read-overlap-2
-shared-slice-read-overlap-2 c = ?
+shared-slice-read-overlap-2 c = search (needs, within (c .before .before))
 
--- src/leap.rt:32:5
 overlap-requires : tie.Need-overlap-requires
 overlap-requires c κs = search needs
 
--- src/leap.rt:27:1
 returns : tie.Need-returns
-returns c = ?
+returns c =
+    let start = c .before .before .before .before .before in
+    let numbers = start .args .numbers .now in
+    c .overlap .ensures
+    ∙ ap (λ i. overlap (start .args .a .lon .0) (start .args .b .lon .0) (getD numbers (2 * start .args .j + 1) 0) (getD numbers (2 * i + 1) 0))
+    (c .before .before .before .place-after .ensures)
 
 pub lons-overlap-spec : {M : Type 1} → statement M
 lons-overlap-spec =

@@ -1,47 +1,57 @@
+-- `crossed::leap::scan` meets its contract: those before the loop's place are apart. Assumes nothing.
+use Prim.Native.Nat.{_-_, _≤_}
+use native.Mathlib.Omega.{arith}
+use mathlib.Core.Path.{sym, _∙_}
+use mathlib.Core.Logic.{⊎-elim}
+use borrow.Author.Needs.{needs}
+use Rattle.edge.specs.Edge.{edge}
+use Rattle.boundary.specs.Listed.{edgeFrom}
+use Rattle.crossed.specs.Rows.{Skipped, lats-apart, lons-apart, skipped-none, skipped-less, skipped-again}
 use Rattle.crossed.proofs.leap.scan.Statement.{statement}
 use Rattle.crossed.proofs.leap.scan.Tie as tie
-use Rattle.crossed.proofs.leap.scan.Reads as reads
-use Rattle.crossed.proofs.leap.scan.Lts as lts
-use Rattle.crossed.proofs.leap.lats_overlap.Reads as lats-overlap-reads
-use Rattle.crossed.proofs.leap.lons_overlap.Reads as lons-overlap-reads
 
 abbrev Inv-loop : tie.InvT-loop
-Inv-loop numbers a b from to j₀ j = ?
+Inv-loop numbers a b from to j₀ j = (from ≤ j) × Skipped numbers (edge a b) from j
 
 abbrev μ-loop : tie.MeasureT-loop
-μ-loop numbers a b from to j₀ j = ?
+μ-loop numbers a b from to j₀ j = to - j
 
--- src/leap.rt:43:5
 loop-holds : tie.Need-loop-holds Inv-loop μ-loop
-loop-holds c = ?
+loop-holds c = (omega arith, skipped-none _ _ _)
 
--- src/leap.rt:44:12
 lats-overlap-requires : tie.Need-lats-overlap-requires Inv-loop μ-loop
-lats-overlap-requires c κs = ?
+lats-overlap-requires c κs = search needs
 
--- src/leap.rt:44:46
 lons-overlap-requires : tie.Need-lons-overlap-requires Inv-loop μ-loop
-lons-overlap-requires c κs = ?
+lons-overlap-requires c κs = search needs
 
--- src/leap.rt:45:13
 returns : tie.Need-returns Inv-loop μ-loop
-returns c = ?
+returns c =
+    let at = c .before .before .before .before in
+    ((at .before .loop .inv .0, omega (arith, at .loop-test .taken)), at .before .loop .inv .1)
 
--- src/leap.rt:47:9
 add-j : tie.Need-add-j Inv-loop μ-loop
-add-j c = ?
+add-j c = search needs
 
--- src/leap.rt:43:5
 loop-less : tie.Need-loop-less Inv-loop μ-loop
-loop-less c = ?
+loop-less c = search needs
 
--- src/leap.rt:43:5
 loop-again : tie.Need-loop-again Inv-loop μ-loop
-loop-again c = ?
+loop-again c =
+    let at = c .before .before .before in
+    let a = at .before .before .args in
+    let e = edge (a .a) (a .b) in
+    let f = edgeFrom (a .numbers .now) (at .loop .j) in (
+      omega (arith, at .loop .inv .0),
+      skipped-again (at .loop .inv .1)
+          (⊎-elim (λ w. lons-apart e f (sym (w .1 .ensures) ∙ w .2 .left)) (λ w. lats-apart e f (sym (c .before .lats-overlap .ensures) ∙ w .left))
+          (c .if1 .came)),
+    )
 
--- src/leap.rt:36:1
 returns-2 : tie.Need-returns-2 Inv-loop μ-loop
-returns-2 c = ?
+returns-2 c =
+    let start = c .before .before .before in
+    ((start .pre .0, omega arith), skipped-less (c .before .loop .inv .1) (start .args .to) (c .loop-test .left))
 
 pub scan-spec : {M : Type 1} → statement M
 scan-spec =
