@@ -1,6 +1,6 @@
 -- Rows: each eight edges one after the other, with their extents from the south-west corner to the north-east corner, and what is near a
 -- row. Edges whose extents are told apart by rows are apart. Assumes nothing.
-use Prim.Native.Nat.{ℕ, suc, _+_, _-_, _*_, _/_, _%_, _≤_, _<_, min, max}
+use Prim.Native.Nat.{ℕ, _+_, _-_, _*_, _/_, _%_, _≤_, _<_, min, max}
 use native.Mathlib.Omega.{arith}
 use mathlib.Core.Path.{_≡_, refl, ap, ap₂, _∙_, sym, subst}
 use mathlib.Core.Logic.{_⊎_, inl, inr}
@@ -10,7 +10,7 @@ use lib.Dec.{ltb}
 use lib.ListN.{length, getD, set, length-set}
 use lib.Seq.{getD-set-same, getD-set-other}
 use borrow.Author.Tests.{ltb-true}
-use Rattle.facts.specs.Tests.{either}
+use Rattle.facts.specs.Tests.{either, either-left}
 use Rattle.facts.specs.Numbers.{either-way}
 use Rattle.ground.specs.declared.Point.{Point}
 use Rattle.ground.specs.Levels.{lat, lon}
@@ -49,29 +49,39 @@ pub spans-self : (p : Point) → Spans (edge p p) p
 spans-self p w = (omega arith, omega arith)
 
 -- The extents of an edge are apart from a row's, in a direction
-abbrev pub apartBy : Way → Edge → Edge → Bool
+abbrev apartBy : Way → Edge → Edge → Bool
 apartBy w e r =
     ltb (max (along w (e .start)) (along w (e .end))) (along w (r .start)) || ltb (along w (r .end)) (min (along w (e .start)) (along w (e .end)))
 
 abbrev pub rowApart : Edge → Edge → Bool
 rowApart e r = apartBy up e r || apartBy across e r
 
--- as the row's numbers stand in a room
-pub apart-lat : (extents : List ℕ) (row : ℕ) (a b : Point)
-    → apartBy up (edge a b) (edgeIn extents row)
-    ≡ (ltb (max (a .lat .0) (b .lat .0)) (getD extents (4 * row) 0) || ltb (getD extents (4 * row + 2) 0) (min (a .lat .0) (b .lat .0)))
-apart-lat extents row a b =
-    let south : 2 * (2 * row) ≡ 4 * row = omega arith in
-    let north : 2 * (2 * row + 1) ≡ 4 * row + 2 = omega arith in
-    ap₂ (λ (m n : ℕ). ltb (max (a .lat .0) (b .lat .0)) (getD extents m 0) || ltb (getD extents n 0) (min (a .lat .0) (b .lat .0))) south north
+-- The numbers of a row as they stand in a room tell by the latitudes, or else by the longitudes
+module _ (extents : List ℕ) (row : ℕ) (a b : Point) where
+  abbrev latsApart : Bool
+  latsApart = ltb (max (a .lat .0) (b .lat .0)) (getD extents (4 * row) 0) || ltb (getD extents (4 * row + 2) 0) (min (a .lat .0) (b .lat .0))
 
-pub apart-lon : (extents : List ℕ) (row : ℕ) (a b : Point)
-    → apartBy across (edge a b) (edgeIn extents row)
-    ≡ (ltb (max (a .lon .0) (b .lon .0)) (getD extents (4 * row + 1) 0) || ltb (getD extents (4 * row + 3) 0) (min (a .lon .0) (b .lon .0)))
-apart-lon extents row a b =
-    let west : 2 * (2 * row) + 1 ≡ 4 * row + 1 = omega arith in
-    let east : 2 * (2 * row + 1) + 1 ≡ 4 * row + 3 = omega arith in
-    ap₂ (λ (m n : ℕ). ltb (max (a .lon .0) (b .lon .0)) (getD extents m 0) || ltb (getD extents n 0) (min (a .lon .0) (b .lon .0))) west east
+  abbrev lonsApart : Bool
+  lonsApart = ltb (max (a .lon .0) (b .lon .0)) (getD extents (4 * row + 1) 0) || ltb (getD extents (4 * row + 3) 0) (min (a .lon .0) (b .lon .0))
+
+  by-lats : latsApart ≡ apartBy up (edge a b) (edgeIn extents row)
+  by-lats =
+      let south : 4 * row ≡ 2 * (2 * row) = omega arith in
+      let north : 4 * row + 2 ≡ 2 * (2 * row + 1) = omega arith in
+      ap₂ (λ (m n : ℕ). ltb (max (a .lat .0) (b .lat .0)) (getD extents m 0) || ltb (getD extents n 0) (min (a .lat .0) (b .lat .0))) south north
+
+  by-lons : lonsApart ≡ apartBy across (edge a b) (edgeIn extents row)
+  by-lons =
+      let west : 4 * row + 1 ≡ 2 * (2 * row) + 1 = omega arith in
+      let east : 4 * row + 3 ≡ 2 * (2 * row + 1) + 1 = omega arith in
+      ap₂ (λ (m n : ℕ). ltb (max (a .lon .0) (b .lon .0)) (getD extents m 0) || ltb (getD extents n 0) (min (a .lon .0) (b .lon .0))) west east
+
+  pub apart-first : {t : Bool} → t ≡ latsApart → t ≡ true → true ≡ rowApart (edge a b) (edgeIn extents row)
+  apart-first e k = sym (either-left (apartBy across (edge a b) (edgeIn extents row)) (sym by-lats ∙ sym e ∙ k))
+
+  pub apart-second : {t u : Bool} → t ≡ latsApart → t ≡ false → u ≡ lonsApart → u ≡ rowApart (edge a b) (edgeIn extents row)
+  apart-second e k f =
+      f ∙ by-lons ∙ ap (λ (t : Bool). t || apartBy across (edge a b) (edgeIn extents row)) (sym k ∙ e ∙ by-lats)
 
 -- so that the edge is apart from each of the row
 row-clear : (e r f : Edge) → rowApart e r ≡ true → Held r f → Clear e f

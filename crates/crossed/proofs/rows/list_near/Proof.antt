@@ -1,9 +1,7 @@
 -- `crossed::rows::list_near` meets its contract: all is told of the rows behind the loop, from the last back. Assumes nothing.
 use Prim.Native.Nat.{_-_, _*_}
-use native.Mathlib.Omega.{arith}
 use mathlib.Core.Path.{_≡_, sym, ap, ap₂, _∙_}
 use mathlib.Core.Logic.{⊎-elim}
-use mathlib.Core.Bool.{true}
 use lib.ListN.{length, length-set}
 use borrow.Author.Tests.{not-false}
 use borrow.Author.Needs.{needs}

@@ -1,11 +1,5 @@
 -- `crossed::rows::row_apart` meets its contract: by the latitudes, or else by the longitudes. Assumes nothing.
-use mathlib.Core.Path.{sym, ap, _∙_}
-use mathlib.Core.Bool.{Bool, _||_}
-use Rattle.facts.specs.Tests.{either-left}
-use Rattle.edge.specs.Edge.{edge}
-use Rattle.boundary.specs.Listed.{edgeIn}
-use Rattle.pair.specs.PairLaws.{across}
-use Rattle.crossed.specs.Rows.{apartBy, apart-lat, apart-lon}
+use Rattle.crossed.specs.Rows.{apart-first, apart-second}
 use borrow.Author.Needs.{needs}
 use Rattle.crossed.proofs.rows.row_apart.Statement.{statement}
 use Rattle.crossed.proofs.rows.row_apart.Tie as tie
@@ -34,7 +28,7 @@ beside-requires c κs = search needs
 returns : tie.Need-returns
 returns c =
     let a = c .before .before .before .before .before .args in
-    sym (either-left _ (apart-lat (a .extents .now) (a .row) (a .a) (a .b) ∙ sym (c .before .beside .ensures) ∙ c .if1 .taken))
+    apart-first (a .extents .now) (a .row) (a .a) (a .b) (c .before .beside .ensures) (c .if1 .taken)
 
 add-beside-2 : tie.Need-add-beside-2
 add-beside-2 c = search needs
@@ -61,10 +55,7 @@ returns-2 : tie.Need-returns-2
 returns-2 c =
     let a = c .before .before .before .before .before .before .before .before .args in
     let first = c .before .before .before in
-    c .beside2 .ensures
-    ∙ sym (apart-lon (a .extents .now) (a .row) (a .a) (a .b))
-    ∙ sym (ap (λ (t : Bool). t || apartBy across (edge (a .a) (a .b)) (edgeIn (a .extents .now) (a .row)))
-    (apart-lat (a .extents .now) (a .row) (a .a) (a .b) ∙ sym (first .before .beside .ensures) ∙ first .if1 .left))
+    apart-second (a .extents .now) (a .row) (a .a) (a .b) (first .before .beside .ensures) (first .if1 .left) (c .beside2 .ensures)
 
 pub row-apart-spec : {M : Type 1} → statement M
 row-apart-spec =
