@@ -1,15 +1,16 @@
 -- Rows: each eight edges one after the other, with their extents from the south-west corner to the north-east corner, and what is near a
 -- row. Edges whose extents are told apart by rows are apart. Assumes nothing.
-use Prim.Native.Nat.{ℕ, suc, _+_, _*_, _/_, _%_, _≤_, _<_, min, max}
+use Prim.Native.Nat.{ℕ, _+_, _-_, _*_, _/_, _%_, _≤_, _<_, min, max}
 use native.Mathlib.Omega.{arith}
-use mathlib.Core.Path.{_≡_, refl, ap, _∙_, sym, subst}
+use mathlib.Core.Path.{_≡_, refl, ap, ap₂, _∙_, sym, subst}
 use mathlib.Core.Logic.{_⊎_, inl, inr}
 use mathlib.Core.Bool.{Bool, true, false, _||_}
 use mathlib.Core.List.{List, [], _∷_}
 use lib.Dec.{ltb}
-use lib.ListN.{length, getD, set}
+use lib.ListN.{length, getD, set, length-set}
+use lib.Seq.{getD-set-same, getD-set-other}
 use borrow.Author.Tests.{ltb-true}
-use Rattle.facts.specs.Tests.{fails-left, fails-right, either}
+use Rattle.facts.specs.Tests.{either, either-left, fails-left, fails-right}
 use Rattle.facts.specs.Numbers.{either-way}
 use Rattle.ground.specs.declared.Point.{Point}
 use Rattle.ground.specs.Levels.{lat, lon}
@@ -54,6 +55,33 @@ apartBy w e r =
 
 abbrev pub rowApart : Edge → Edge → Bool
 rowApart e r = apartBy up e r || apartBy across e r
+
+-- The numbers of a row as they stand in a room tell by the latitudes, or else by the longitudes
+module _ (extents : List ℕ) (row : ℕ) (a b : Point) where
+  abbrev latsApart : Bool
+  latsApart = ltb (max (a .lat .0) (b .lat .0)) (getD extents (4 * row) 0) || ltb (getD extents (4 * row + 2) 0) (min (a .lat .0) (b .lat .0))
+
+  abbrev lonsApart : Bool
+  lonsApart = ltb (max (a .lon .0) (b .lon .0)) (getD extents (4 * row + 1) 0) || ltb (getD extents (4 * row + 3) 0) (min (a .lon .0) (b .lon .0))
+
+  by-lats : latsApart ≡ apartBy up (edge a b) (edgeIn extents row)
+  by-lats =
+      let south : 4 * row ≡ 2 * (2 * row) = omega arith in
+      let north : 4 * row + 2 ≡ 2 * (2 * row + 1) = omega arith in
+      ap₂ (λ (m n : ℕ). ltb (max (a .lat .0) (b .lat .0)) (getD extents m 0) || ltb (getD extents n 0) (min (a .lat .0) (b .lat .0))) south north
+
+  by-lons : lonsApart ≡ apartBy across (edge a b) (edgeIn extents row)
+  by-lons =
+      let west : 4 * row + 1 ≡ 2 * (2 * row) + 1 = omega arith in
+      let east : 4 * row + 3 ≡ 2 * (2 * row + 1) + 1 = omega arith in
+      ap₂ (λ (m n : ℕ). ltb (max (a .lon .0) (b .lon .0)) (getD extents m 0) || ltb (getD extents n 0) (min (a .lon .0) (b .lon .0))) west east
+
+  pub apart-first : {t : Bool} → t ≡ latsApart → t ≡ true → true ≡ rowApart (edge a b) (edgeIn extents row)
+  apart-first e k = sym (either-left (apartBy across (edge a b) (edgeIn extents row)) (sym by-lats ∙ sym e ∙ k))
+
+  pub apart-second : {t u : Bool} → t ≡ latsApart → t ≡ false → u ≡ lonsApart → u ≡ rowApart (edge a b) (edgeIn extents row)
+  apart-second e k f =
+      f ∙ by-lons ∙ ap (λ (t : Bool). t || apartBy across (edge a b) (edgeIn extents row)) (sym k ∙ e ∙ by-lats)
 
 -- so that the edge is apart from each of the row
 row-clear : (e r f : Edge) → rowApart e r ≡ true → Held r f → Clear e f
@@ -135,9 +163,9 @@ row-again {numbers} {from} {i} {d} r less = record { held = held; next = next }
             (spans-wider d p (edgeFrom numbers x .start) (h .0), spans-wider d p (edgeFrom numbers x .end) (h .1))
 
 -- One row more is listed
-pub row-listed : {numbers extents : List ℕ} {row : ℕ} {d : Edge} → RowsTo numbers extents row → row < length extents / 4
-    → (to : ℕ) → to ≡ min (length numbers / 2) (8 * row + 8) → Row numbers (8 * row) to d → RowsTo numbers (withEdge extents row d) (row + 1)
-row-listed {numbers} {extents} {row} {d} before fits to e r = record { held = held }
+pub row-listed : {numbers extents : List ℕ} {row to i : ℕ} {d : Edge} → RowsTo numbers extents row → row < length extents / 4
+    → to ≡ min (length numbers / 2) (8 * row + 8) → to ≤ i → Row numbers (8 * row) i d → RowsTo numbers (withEdge extents row d) (row + 1)
+row-listed {numbers} {extents} {row} {to} {i} {d} before fits e past r = record { held = held }
   where
     held : (x : ℕ) → x < length numbers / 2 → x < 8 * (row + 1) → Held (edgeIn (withEdge extents row d) (x / 8)) (edgeFrom numbers x)
     held x h k = at (either-way (8 * row) x)
@@ -150,6 +178,24 @@ row-listed {numbers} {extents} {row} {d} before fits to e r = record { held = he
         at (inr l) =
             subst (λ (f : Edge). Held f (edgeFrom numbers x)) (sym (edge-before extents row d fits (x / 8) (omega arith))) (before .held x h l)
 
+-- A loop has listed the rows before one
+pub record Rowing (numbers : List ℕ) (size : ℕ) (extents : List ℕ) (row : ℕ) : Type 0 where
+  pub long : length extents ≡ size
+  pub few : row ≤ rowsOf numbers
+  pub rows : RowsTo numbers extents row
+
+pub rowing-begin : (numbers extents : List ℕ) → Rowing numbers (length extents) extents 0
+rowing-begin numbers extents = record { long = refl; few = omega arith; rows = rows-none numbers extents }
+
+pub rowing-again : {numbers extents later : List ℕ} {size row : ℕ} → Rowing numbers size extents row → 8 * row < length numbers / 2
+    → length later ≡ length extents → RowsTo numbers later (row + 1) → Rowing numbers size later (row + 1)
+rowing-again r less long rows = record { long = long ∙ r .long; few = omega arith; rows = rows }
+
+-- and where no edge is left, all
+pub rowing-end : {numbers extents : List ℕ} {size row : ℕ} → Rowing numbers size extents row → length numbers / 2 ≤ 8 * row
+    → RowsTo numbers extents (rowsOf numbers)
+rowing-end r over = record { held = λ x h k. r .rows .held x h (omega arith) }
+
 -- The rows from one on to where a place lies are apart from a row
 abbrev pub AheadOf : List ℕ → ℕ → ℕ → ℕ → Type 0
 AheadOf extents own row place =
@@ -158,6 +204,78 @@ AheadOf extents own row place =
 -- For the rows from one on it is told where the first starts that is near a row
 pub record Near (extents : List ℕ) (own rows : ℕ) (near : List ℕ) (row : ℕ) : Type 0 where
   pub told : (r : ℕ) → row ≤ r → r ≤ rows → AheadOf extents own r (getD near r 0)
+
+-- A loop has told it from the last row back to one, and where the first that is near starts, it or a later one
+pub record Nearing (extents : List ℕ) (own rows size : ℕ) (near : List ℕ) (row first : ℕ) : Type 0 where
+  pub long : length near ≡ size
+  pub fits : rows < size
+  pub from : own ≤ row
+  pub upto : row ≤ rows
+  pub behind : Near extents own rows near row
+  pub ahead : AheadOf extents own row first
+
+module _ {extents : List ℕ} {own rows : ℕ} where
+  near-set : (near : List ℕ) (row first : ℕ) → row < length near
+      → ((r : ℕ) → row < r → r ≤ rows → AheadOf extents own r (getD near r 0)) → AheadOf extents own row first
+      → Near extents own rows (set near row first) row
+  near-set near row first fits later ahead = record { told = told }
+    where
+      told : (r : ℕ) → row ≤ r → r ≤ rows → AheadOf extents own r (getD (set near row first) r 0)
+      told r h k = at (either-way r row)
+        where
+          at : (r ≤ row) ⊎ (row < r) → AheadOf extents own r (getD (set near row first) r 0)
+          at (inl l) =
+              let same : row ≡ r = omega arith in
+              subst (λ (x : ℕ). AheadOf extents own x (getD (set near row first) x 0)) same
+              (subst (AheadOf extents own row) (sym (getD-set-same near row first 0 fits)) ahead)
+          at (inr l) = subst (AheadOf extents own r) (sym (getD-set-other near row r first 0 (λ e. omega arith))) (later r l k)
+
+  -- Past the last row nothing is told
+  pub nearing-begin : (near : List ℕ) → rows < length near → own ≤ rows
+      → Nearing extents own rows (length (set near rows (8 * rows))) (set near rows (8 * rows)) rows (8 * rows)
+  nearing-begin near fits h =
+      let none : AheadOf extents own rows (8 * rows) = λ y i j. let none : ⊥ = omega arith in absurd none in
+      record {
+        long = refl;
+        fits = subst (λ (n : ℕ). rows < n) (sym (length-set near rows (8 * rows))) fits;
+        from = h;
+        upto = omega arith;
+        behind = near-set near rows (8 * rows) fits (λ r i j. let none : ⊥ = omega arith in absurd none) none;
+        ahead = none;
+      }
+
+  module _ {size row first : ℕ} {near : List ℕ} (n : Nearing extents own rows size near row first) (less : own < row) where
+    nearing-next : (place : ℕ) → AheadOf extents own (row - 1) place → Nearing extents own rows size (set near (row - 1) place) (row - 1) place
+    nearing-next place ahead = record {
+      long = length-set near (row - 1) place ∙ n .long;
+      fits = n .fits;
+      from = omega arith;
+      upto = omega (arith, n .upto);
+      behind = near-set near (row - 1) place (omega (arith, n .long, n .fits, n .upto)) (λ r i j. n .behind .told r (omega arith) j) ahead;
+      ahead = ahead;
+    }
+
+    -- One row more: what starts there is near
+    pub nearing-there : {place : ℕ} → place ≡ 8 * (row - 1) → Nearing extents own rows size (set near (row - 1) place) (row - 1) place
+    nearing-there {place} e = nearing-next place (λ y i j. let none : ⊥ = omega arith in absurd none)
+
+    -- or it is apart, and the first is as before
+    pub nearing-later : {place : ℕ} → place ≡ first → rowApart (edgeIn extents own) (edgeIn extents (row - 1)) ≡ true
+        → Nearing extents own rows size (set near (row - 1) place) (row - 1) place
+    nearing-later {place} e apart = nearing-next place ahead
+      where
+        ahead : AheadOf extents own (row - 1) place
+        ahead y i j = at (either-way (8 * row) y)
+          where
+            at : (8 * row ≤ y) ⊎ (y < 8 * row) → rowApart (edgeIn extents own) (edgeIn extents (y / 8)) ≡ true
+            at (inl l) = n .ahead y l (omega arith)
+            at (inr l) =
+                let same : row - 1 ≡ y / 8 = omega arith in
+                subst (λ (r : ℕ). rowApart (edgeIn extents own) (edgeIn extents r) ≡ true) same apart
+
+  -- Back at the own row all is told
+  pub nearing-end : {size row first : ℕ} {near : List ℕ} → Nearing extents own rows size near row first → row ≤ own → Near extents own rows near own
+  nearing-end n h = record { told = λ r i j. n .behind .told r (omega (arith, n .from)) j }
 
 -- The edges from a place on to where the first row that is near starts are apart from each of a row
 pub record NearRow (numbers near : List ℕ) (own : ℕ) : Type 0 where
@@ -190,6 +308,12 @@ near-none numbers (n ∷ near) own e = let none : ⊥ = omega arith in absurd no
 pub data Rooms (numbers extents : List ℕ) (size : ℕ) : Type 0 where
   without : size ≡ 0 → Rooms numbers extents size
   with : rowsOf numbers ≤ length extents / 4 → rowsOf numbers < size → RowsTo numbers extents (rowsOf numbers) → Rooms numbers extents size
+
+-- and where there is one, they hold all
+pub rooms-held : {numbers extents : List ℕ} {size : ℕ} → Rooms numbers extents size → 0 < size
+    → (rowsOf numbers ≤ length extents / 4) × ((rowsOf numbers < size) × RowsTo numbers extents (rowsOf numbers))
+rooms-held (without e) h = let none : ⊥ = omega arith in absurd none
+rooms-held (with few less rows) h = (few, (less, rows))
 
 -- The edges from one place to another are apart from an edge
 pub record Skipped (numbers : List ℕ) (e : Edge) (from to : ℕ) : Type 0 where

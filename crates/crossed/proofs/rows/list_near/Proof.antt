@@ -1,87 +1,99 @@
+-- `crossed::rows::list_near` meets its contract: all is told of the rows behind the loop, from the last back. Assumes nothing.
+use Prim.Native.Nat.{_-_, _*_}
+use mathlib.Core.Path.{_≡_, sym, ap, ap₂, _∙_}
+use mathlib.Core.Logic.{⊎-elim}
+use lib.ListN.{length, length-set}
+use borrow.Author.Tests.{not-false}
+use borrow.Author.Needs.{needs}
+use Rattle.edge.specs.Edge.{Edge, edge}
+use Rattle.boundary.specs.Listed.{edgeIn}
+use Rattle.crossed.specs.Rows.{rowApart, Nearing, nearing-begin, nearing-there, nearing-later, nearing-end}
 use Rattle.crossed.proofs.rows.list_near.Statement.{statement}
 use Rattle.crossed.proofs.rows.list_near.Tie as tie
-use Rattle.crossed.proofs.rows.list_near.Reads as reads
-use Rattle.crossed.proofs.rows.list_near.Lts as lts
-use Rattle.crossed.proofs.meeting.corner.Reads as corner-reads
-use Rattle.crossed.proofs.rows.row_apart.Reads as row-apart-reads
 
 abbrev Inv-loop : tie.InvT-loop
-Inv-loop extents rows own near₀ row₀ first₀ near row first = ?
+Inv-loop extents rows own near₀ row₀ first₀ near row first = Nearing extents own rows (length near₀) near row first
 
 abbrev μ-loop : tie.MeasureT-loop
-μ-loop extents rows own near₀ row₀ first₀ near row first = ?
+μ-loop extents rows own near₀ row₀ first₀ near row first = row
 
--- src/rows.rt:113:21
 mul-first : tie.Need-mul-first Inv-loop μ-loop
-mul-first c = ?
+mul-first c = search needs
 
--- src/rows.rt:114:5
 mul-near : tie.Need-mul-near Inv-loop μ-loop
-mul-near c = ?
+mul-near c = search needs
 
--- src/rows.rt:114:5
 slice-write-near : tie.Need-slice-write-near Inv-loop μ-loop
-slice-write-near c = ?
+slice-write-near c = search needs
 
--- src/rows.rt:115:5
+-- what is told of the row at the loop's place
+told : (c : tie.After-row-apart Inv-loop μ-loop)
+    → let at = c .before .before .before .before in let a = at .before .before .before .args in
+    c .row-apart .result ≡ rowApart (edgeIn (a .extents .now) (a .own)) (edgeIn (a .extents .now) (at .loop .row - 1))
+told c =
+    let at = c .before .before .before .before in
+    let a = at .before .before .before .args in
+    c .row-apart .ensures
+    ∙ ap (λ (e : Edge). rowApart e (edgeIn (a .extents .now) (at .loop .row - 1))) (ap₂ edge (c .before .before .corner .ensures) (c .before .corner2 .ensures))
+
 loop-holds : tie.Need-loop-holds Inv-loop μ-loop
-loop-holds c = ?
+loop-holds c =
+    let start = c .before .before in
+    nearing-begin (start .args .near .now) (start .pre .1 .0) (start .pre .1 .1)
 
--- src/rows.rt:116:9
 sub-row : tie.Need-sub-row Inv-loop μ-loop
-sub-row c = ?
+sub-row c = search needs
 
--- src/rows.rt:119:29
 mul-corner : tie.Need-mul-corner Inv-loop μ-loop
-mul-corner c = ?
+mul-corner c = search needs
 
--- src/rows.rt:119:13
 corner-requires : tie.Need-corner-requires Inv-loop μ-loop
-corner-requires c κs = ?
+corner-requires c κs = search needs
 
--- src/rows.rt:120:29
 mul-corner-2 : tie.Need-mul-corner-2 Inv-loop μ-loop
-mul-corner-2 c = ?
+mul-corner-2 c = search needs
 
--- src/rows.rt:120:29
 add-corner : tie.Need-add-corner Inv-loop μ-loop
-add-corner c = ?
+add-corner c = search needs
 
--- src/rows.rt:120:13
 corner-requires-2 : tie.Need-corner-requires-2 Inv-loop μ-loop
-corner-requires-2 c κs = ?
+corner-requires-2 c κs = search needs
 
--- src/rows.rt:117:13
 row-apart-requires : tie.Need-row-apart-requires Inv-loop μ-loop
-row-apart-requires c κs = ?
+row-apart-requires c κs = search needs
 
--- src/rows.rt:123:21
 mul-first-2 : tie.Need-mul-first-2 Inv-loop μ-loop
-mul-first-2 c = ?
+mul-first-2 c = search needs
 
--- src/rows.rt:125:9
 mul-near-2 : tie.Need-mul-near-2 Inv-loop μ-loop
-mul-near-2 c = ?
+mul-near-2 c = search needs
 
--- src/rows.rt:125:9
 slice-write-near-2 : tie.Need-slice-write-near-2 Inv-loop μ-loop
-slice-write-near-2 c = ?
+slice-write-near-2 c = search needs
 
--- src/rows.rt:115:5
 loop-less : tie.Need-loop-less Inv-loop μ-loop
-loop-less c = ?
+loop-less c = search needs
 
--- src/rows.rt:115:5
 loop-again : tie.Need-loop-again Inv-loop μ-loop
-loop-again c = ?
+loop-again c =
+    let far = c .before in
+    let at = far .before .before .before .before in
+    let less = far .before .before .before .loop-test .taken in
+    ⊎-elim (λ t. nearing-there (at .loop .inv) less (t .1))
+    (λ t. nearing-later (at .loop .inv) less (t .1) (sym (told far) ∙ not-false (far .row-apart .result) (t .0 .left)))
+    (c .if1 .came)
 
--- src/rows.rt:105:1
+-- the room is as long as it was
+whole : (c : tie.After-loop Inv-loop μ-loop) → length (c .before .loop .near) ≡ length (c .before .before .before .before .args .near .now)
+whole c =
+    let a = c .before .before .before .before .args in
+    c .before .loop .inv .long ∙ length-set (a .near .now) (a .rows) (8 * a .rows)
+
 same-length : tie.Need-same-length Inv-loop μ-loop
-same-length c = ?
+same-length c = whole c
 
--- src/rows.rt:105:1
 returns : tie.Need-returns Inv-loop μ-loop
-returns c = ?
+returns c = (whole c, nearing-end (c .before .loop .inv) (c .loop-test .left))
 
 pub list-near-spec : {M : Type 1} → statement M
 list-near-spec =

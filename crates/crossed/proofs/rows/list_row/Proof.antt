@@ -1,87 +1,96 @@
+-- `crossed::rows::list_row` meets its contract: the extents so far hold the edges before the loop. Assumes nothing.
+use Prim.Native.Nat.{ℕ, _+_, _-_, _*_}
+use mathlib.Core.Path.{_≡_, sym, ap, ap₂, subst, _∙_}
+use mathlib.Core.List.{List}
+use lib.ListN.{length}
+use borrow.Author.Needs.{needs}
+use Rattle.edge.specs.Edge.{edge}
+use Rattle.boundary.specs.ListedLaws.{with-length}
+use Rattle.crossed.specs.Rows.{lowest, highest, RowsTo, Row, row-begin, row-again, row-listed}
 use Rattle.crossed.proofs.rows.list_row.Statement.{statement}
 use Rattle.crossed.proofs.rows.list_row.Tie as tie
-use Rattle.crossed.proofs.rows.list_row.Reads as reads
-use Rattle.crossed.proofs.rows.list_row.Lts as lts
-use Rattle.boundary.proofs.put_edge.Reads as put-edge-reads
-use Rattle.crossed.proofs.meeting.corner.Reads as corner-reads
-use Rattle.crossed.proofs.meeting.end_of.Reads as end-of-reads
-use Rattle.crossed.proofs.rows.high.Reads as high-reads
-use Rattle.crossed.proofs.rows.low.Reads as low-reads
-use Rattle.crossed.proofs.rows.row_end.Reads as row-end-reads
 
 abbrev Inv-loop : tie.InvT-loop
-Inv-loop numbers extents row to south-west₀ north-east₀ i₀ south-west north-east i = ?
+Inv-loop numbers extents row to south-west₀ north-east₀ i₀ south-west north-east i = Row numbers (8 * row) i (edge south-west north-east)
 
 abbrev μ-loop : tie.MeasureT-loop
-μ-loop numbers extents row to south-west₀ north-east₀ i₀ south-west north-east i = ?
+μ-loop numbers extents row to south-west₀ north-east₀ i₀ south-west north-east i = to - i
 
--- src/rows.rt:58:9
 row-end-requires : tie.Need-row-end-requires Inv-loop μ-loop
-row-end-requires c κs = ?
+row-end-requires c κs = search needs
 
--- src/rows.rt:59:42
 mul-corner : tie.Need-mul-corner Inv-loop μ-loop
-mul-corner c = ?
+mul-corner c = search needs
 
--- src/rows.rt:59:9
 corner-requires : tie.Need-corner-requires Inv-loop μ-loop
-corner-requires c κs = ?
+corner-requires c κs = search needs
 
--- src/rows.rt:60:42
 mul-corner-2 : tie.Need-mul-corner-2 Inv-loop μ-loop
-mul-corner-2 c = ?
+mul-corner-2 c = search needs
 
--- src/rows.rt:60:9
 corner-requires-2 : tie.Need-corner-requires-2 Inv-loop μ-loop
-corner-requires-2 c κs = ?
+corner-requires-2 c κs = search needs
 
--- src/rows.rt:61:17
 mul-i : tie.Need-mul-i Inv-loop μ-loop
-mul-i c = ?
+mul-i c = search needs
 
--- src/rows.rt:62:5
 loop-holds : tie.Need-loop-holds Inv-loop μ-loop
-loop-holds c = ?
+loop-holds c =
+    let a = c .before .before .before .before .before .args in
+    subst (Row (a .numbers .now) (8 * a .row) (8 * a .row)) (sym (ap₂ edge (c .before .corner .ensures) (c .corner2 .ensures)))
+    (row-begin (a .numbers .now) (8 * a .row))
 
--- src/rows.rt:63:38
 end-of-requires : tie.Need-end-of-requires Inv-loop μ-loop
-end-of-requires c κs = ?
+end-of-requires c κs = search needs
 
--- src/rows.rt:63:9
 low-requires : tie.Need-low-requires Inv-loop μ-loop
-low-requires c κs = ?
+low-requires c κs = search needs
 
--- src/rows.rt:64:39
 end-of-requires-2 : tie.Need-end-of-requires-2 Inv-loop μ-loop
-end-of-requires-2 c κs = ?
+end-of-requires-2 c κs = search needs
 
--- src/rows.rt:64:9
 high-requires : tie.Need-high-requires Inv-loop μ-loop
-high-requires c κs = ?
+high-requires c κs = search needs
 
--- src/rows.rt:65:9
 add-i : tie.Need-add-i Inv-loop μ-loop
-add-i c = ?
+add-i c = search needs
 
--- src/rows.rt:62:5
 loop-less : tie.Need-loop-less Inv-loop μ-loop
-loop-less c = ?
+loop-less c = search needs
 
--- src/rows.rt:62:5
 loop-again : tie.Need-loop-again Inv-loop μ-loop
-loop-again c = ?
+loop-again c =
+    let at = c .before .before .before .before .before in
+    let a = at .before .before .before .before .before .before .args in
+    subst (Row (a .numbers .now) (8 * a .row) (at .loop .i + 1))
+    (sym
+    (ap₂ edge (c .before .before .low .ensures ∙ ap (lowest (at .loop .south-west)) (c .before .before .before .end-of .ensures))
+    (c .high .ensures ∙ ap (highest (at .loop .north-east)) (c .before .end-of2 .ensures))))
+    (row-again (at .loop .inv) (search needs))
 
--- src/rows.rt:67:5
 put-edge-requires : tie.Need-put-edge-requires Inv-loop μ-loop
-put-edge-requires c κs = ?
+put-edge-requires c κs = search needs
 
--- src/rows.rt:51:1
+-- what is listed once the row is put
+listed : (c : tie.After-put-edge Inv-loop μ-loop)
+    → let a = c .before .before .before .before .before .before .before .before .before .args in
+    (length (c .put-edge .last .0) ≡ length (a .extents .now)) × RowsTo (a .numbers .now) (c .put-edge .last .0) (a .row + 1)
+listed c =
+    let past = c .before .before in
+    let at = past .before in
+    let start = at .before .before .before .before .before .before in
+    let a = start .args in
+    let d = edge (at .loop .south-west) (at .loop .north-east) in (
+      ap length (c .put-edge .ensures) ∙ with-length (a .extents .now) (a .row) d,
+      subst (λ (room : List ℕ). RowsTo (a .numbers .now) room (a .row + 1)) (sym (c .put-edge .ensures))
+          (row-listed (start .pre .1 .1) (start .pre .1 .0) (at .before .before .before .row-end .ensures) (past .loop-test .left) (at .loop .inv)),
+    )
+
 same-length : tie.Need-same-length Inv-loop μ-loop
-same-length c = ?
+same-length c = listed (c .before .before) .0
 
--- src/rows.rt:51:1
 returns : tie.Need-returns Inv-loop μ-loop
-returns c = ?
+returns c = listed (c .before .before)
 
 pub list-row-spec : {M : Type 1} → statement M
 list-row-spec =
