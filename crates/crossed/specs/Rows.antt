@@ -215,6 +215,7 @@ pub record Nearing (extents : List ℕ) (own rows size : ℕ) (near : List ℕ) 
   pub ahead : AheadOf extents own row first
 
 module _ {extents : List ℕ} {own rows : ℕ} where
+  -- What is told of a row and of each later one is told from that row on
   near-set : (near : List ℕ) (row first : ℕ) → row < length near
       → ((r : ℕ) → row < r → r ≤ rows → AheadOf extents own r (getD near r 0)) → AheadOf extents own row first
       → Near extents own rows (set near row first) row
@@ -230,7 +231,7 @@ module _ {extents : List ℕ} {own rows : ℕ} where
               (subst (AheadOf extents own row) (sym (getD-set-same near row first 0 fits)) ahead)
           at (inr l) = subst (AheadOf extents own r) (sym (getD-set-other near row r first 0 (λ e. omega arith))) (later r l k)
 
-  -- Past the last row nothing is told
+  -- From past the last row on none is near
   pub nearing-begin : (near : List ℕ) → rows < length near → own ≤ rows
       → Nearing extents own rows (length (set near rows (8 * rows))) (set near rows (8 * rows)) rows (8 * rows)
   nearing-begin near fits h =
@@ -245,6 +246,7 @@ module _ {extents : List ℕ} {own rows : ℕ} where
       }
 
   module _ {size row first : ℕ} {near : List ℕ} (n : Nearing extents own rows size near row first) (less : own < row) where
+    -- One row more
     nearing-next : (place : ℕ) → AheadOf extents own (row - 1) place → Nearing extents own rows size (set near (row - 1) place) (row - 1) place
     nearing-next place ahead = record {
       long = length-set near (row - 1) place ∙ n .long;
@@ -255,11 +257,11 @@ module _ {extents : List ℕ} {own rows : ℕ} where
       ahead = ahead;
     }
 
-    -- One row more: what starts there is near
+    -- which is the first
     pub nearing-there : {place : ℕ} → place ≡ 8 * (row - 1) → Nearing extents own rows size (set near (row - 1) place) (row - 1) place
     nearing-there {place} e = nearing-next place (λ y i j. let none : ⊥ = omega arith in absurd none)
 
-    -- or it is apart, and the first is as before
+    -- or it is apart, and the first stays
     pub nearing-later : {place : ℕ} → place ≡ first → rowApart (edgeIn extents own) (edgeIn extents (row - 1)) ≡ true
         → Nearing extents own rows size (set near (row - 1) place) (row - 1) place
     nearing-later {place} e apart = nearing-next place ahead

@@ -76,11 +76,11 @@ loop-less c = search needs
 
 loop-again : tie.Need-loop-again Inv-loop μ-loop
 loop-again c =
-    let far = c .before in
-    let at = far .before .before .before .before in
-    let less = far .before .before .before .loop-test .taken in
+    let asked = c .before in
+    let at = asked .before .before .before .before in
+    let less = asked .before .before .before .loop-test .taken in
     ⊎-elim (λ t. nearing-there (at .loop .inv) less (t .1))
-    (λ t. nearing-later (at .loop .inv) less (t .1) (sym (told far) ∙ not-false (far .row-apart .result) (t .0 .left)))
+    (λ t. nearing-later (at .loop .inv) less (t .1) (sym (told asked) ∙ not-false (asked .row-apart .result) (t .0 .left)))
     (c .if1 .came)
 
 -- the room is as long as it was

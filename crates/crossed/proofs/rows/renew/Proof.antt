@@ -33,8 +33,7 @@ returns-2 : tie.Need-returns-2
 returns-2 c =
     let start = c .before .before .before .before in
     let a = start .args in
-    let size = length (a .near .now) in
-    (
+    let size = length (a .near .now) in (
       refl,
       ⊎-elim (λ w. near-none (a .numbers .now) (a .near .now) (a .i / 8) (omega (arith, ltb-false 0 size (w .1 .left)))) (λ w. start .pre .1 .1 (w .left)) (c .if1 .came),
     )
