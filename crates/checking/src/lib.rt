@@ -7,6 +7,7 @@ ghost use Rattle.corners.specs.Corners.{cornersOf};
 ghost use Rattle.unit.specs.Extents.{extremesOf};
 ghost use Rattle.unit.specs.Unit.{badNumber, roomCheck, shapeChecks, groundChecks, numberCheck};
 ghost use Rattle.unit.specs.Frame.{says, firstChecks, tells, admitting};
+use crossed::Met;
 use ground::DEGREE;
 use ground::Rectangle;
 use unit::Admission;
@@ -38,7 +39,18 @@ fn shape_checks(numbers: &[u32]) -> Coded
     Coded::Accepted
 }
 
-// What checks 4 and 5 say of at most 1,024 corners and their extremes.
+// What check 31 says of at most 1,024 corners.
+fn crossed_check(numbers: &[u32]) -> Coded
+    requires { ⌜ length (now numbers) / 2 ≤ 1024 ⌝ }
+    ensures { λ r. ⌜ says r ≡ run (crossedCheck (cornersOf (now (numbers .entry)))) ⌝ }
+{
+    match crossed::first_pair(numbers) {
+        Met::Pair(first, _) => Coded::Crossed(first as u32),
+        Met::Nowhere => Coded::Accepted,
+    }
+}
+
+// What checks 4, 5 and 31 say of at most 1,024 corners and their extremes.
 fn ground_checks(numbers: &[u32], r: Rectangle) -> Coded
     requires { ⌜ length (now numbers) / 2 ≤ 1024 ⌝ }
     requires { ⌜ r ≡ extremesOf (cornersOf (now numbers)) ⌝ }
@@ -52,7 +64,7 @@ fn ground_checks(numbers: &[u32], r: Rectangle) -> Coded
     if DEGREE < extents::span(r) {
         return Coded::Extent;
     }
-    Coded::Accepted
+    crossed_check(numbers)
 }
 
 // Whether a number is none that a unit of a kind can have.
