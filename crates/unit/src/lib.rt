@@ -36,7 +36,8 @@ pub enum Coded {
     Span,
 }
 
-// What checks 1 to 6 leave to a road: their refusal, or the extents over which it looks for a cell.
+// What the checks before a cell is looked for leave to a road: their refusal, or the extents over which it
+// looks for one.
 pub enum Admission {
     Refused(Coded),
     Over(Rectangle),
