@@ -5,7 +5,7 @@ ghost use lib.ListN.{length};
 ghost use Rattle.replies.specs.Replies.{run};
 ghost use Rattle.corners.specs.Corners.{cornersOf};
 ghost use Rattle.unit.specs.Extents.{extremesOf};
-ghost use Rattle.unit.specs.Unit.{badNumber, roomCheck, shapeChecks, groundChecks, numberCheck};
+ghost use Rattle.unit.specs.Unit.{badNumber, roomCheck, shapeChecks, crossedCheck, groundChecks, numberCheck};
 ghost use Rattle.unit.specs.Frame.{says, firstChecks, tells, admitting};
 use crossed::Met;
 use ground::DEGREE;
@@ -45,7 +45,10 @@ fn crossed_check(numbers: &[u32]) -> Coded
     ensures { λ r. ⌜ says r ≡ run (crossedCheck (cornersOf (now (numbers .entry)))) ⌝ }
 {
     match crossed::first_pair(numbers) {
-        Met::Pair(first, _) => Coded::Crossed(first as u32),
+        Met::Pair(first, _) => {
+            let corner = first as u32;
+            Coded::Crossed(corner)
+        }
         Met::Nowhere => Coded::Accepted,
     }
 }
@@ -87,7 +90,7 @@ fn number_check(kind: Kind, number: u32) -> Coded
     Coded::Accepted
 }
 
-// What checks 1 to 6 say of so many bytes of room: the first that refuses, or acceptance.
+// What these checks say of so many bytes of room: the first that refuses, or acceptance.
 fn checks(room: usize, numbers: &[u32], r: Rectangle, kind: Kind, number: u32) -> Coded
     requires { ⌜ r ≡ extremesOf (cornersOf (now numbers)) ⌝ }
     ensures { λ r. ⌜ says r ≡ run (firstChecks room (now (numbers .entry)) kind number) ⌝ }
@@ -107,7 +110,7 @@ fn checks(room: usize, numbers: &[u32], r: Rectangle, kind: Kind, number: u32) -
     number_check(kind, number)
 }
 
-// What checks 1 to 6 leave to a road: the refusal of the first that refuses, or the unit's own extremes;
+// What they leave to a road: the refusal of the first that refuses, or the unit's own extremes;
 // a cell is looked for only then. The extremes are worked out once, for check 5 and for the road.
 pub fn admit(room: usize, numbers: &[u32], kind: Kind, number: u32) -> Admission
     ensures { λ r. ⌜ tells r ≡ admitting room (now (numbers .entry)) kind number ⌝ }
