@@ -90,7 +90,7 @@ fn number_check(kind: Kind, number: u32) -> Coded
     Coded::Accepted
 }
 
-// What these checks say of so many bytes of room: the first that refuses, or acceptance.
+// What these tables together say of so many bytes of room: the first refusal, or acceptance.
 fn checks(room: usize, numbers: &[u32], r: Rectangle, kind: Kind, number: u32) -> Coded
     requires { ⌜ r ≡ extremesOf (cornersOf (now numbers)) ⌝ }
     ensures { λ r. ⌜ says r ≡ run (firstChecks room (now (numbers .entry)) kind number) ⌝ }
@@ -110,7 +110,7 @@ fn checks(room: usize, numbers: &[u32], r: Rectangle, kind: Kind, number: u32) -
     number_check(kind, number)
 }
 
-// What they leave to a road: the refusal of the first that refuses, or the unit's own extremes;
+// What the tables leave to a road: the refusal of the first check that refuses, or the unit's own extremes;
 // a cell is looked for only then. The extremes are worked out once, for check 5 and for the road.
 pub fn admit(room: usize, numbers: &[u32], kind: Kind, number: u32) -> Admission
     ensures { λ r. ⌜ tells r ≡ admitting room (now (numbers .entry)) kind number ⌝ }
