@@ -14,6 +14,9 @@ static const uint32_t square[] = {
 /* A triangle whose third corner lies beyond 180 degrees. */
 static const uint32_t beyond[] = {0, 0, 0, 960, 32, 1327104001};
 
+/* A bow-tie whose first corner is given twice: the first edge that has a length starts at corner 1. */
+static const uint32_t crossed[] = {0, 0, 0, 0, 32, 960, 0, 960, 32, 0};
+
 /* A room that is longer than a code, so that it is seen what stays as it was. */
 static uint8_t room[22];
 
@@ -51,6 +54,8 @@ static void refused_coding(void) {
     show("code_plain", linenspruce_code_plain(NULL, 0, square, NUMBERS, linenspruce_building, 1), 0);
     show("code_quick", linenspruce_code_quick(dots(), 22, square, NUMBERS - 1, linenspruce_building, 1), 22);
     show("code_quick", linenspruce_code_quick(dots(), 22, beyond, 6, linenspruce_other, 0), 22);
+    show("code_quick", linenspruce_code_quick(dots(), 22, crossed, 10, linenspruce_other, 0), 22);
+    show("code_plain", linenspruce_code_plain(dots(), 22, crossed, 10, linenspruce_other, 0), 22);
     show("code_quick", linenspruce_code_quick(dots(), 22, square, NUMBERS, linenspruce_other, 1), 22);
 }
 

@@ -8,6 +8,9 @@ SQUARE = [294250496, 857567232, 294250496, 857569280, 294252544, 857569280, 2942
 # A triangle whose third corner lies beyond 180 degrees.
 BEYOND = [0, 0, 0, 960, 32, 1327104001]
 
+# A bow-tie whose first corner is given twice: the first edge that has a length starts at corner 1.
+CROSSED = [0, 0, 0, 0, 32, 960, 0, 960, 32, 0]
+
 
 def dots(length):
     """A room. That of 22 is longer than a code, so that it is seen what stays as it was."""
@@ -51,6 +54,8 @@ def refused_coding():
     show_code(code_plain, 0, SQUARE, Kind.BUILDING, 1)
     show_code(code_quick, 22, SQUARE[:-1], Kind.BUILDING, 1)
     show_code(code_quick, 22, BEYOND, Kind.OTHER, 0)
+    show_code(code_quick, 22, CROSSED, Kind.OTHER, 0)
+    show_code(code_plain, 22, CROSSED, Kind.OTHER, 0)
     show_code(code_quick, 22, SQUARE, Kind.OTHER, 1)
 
 

@@ -12,6 +12,9 @@ const SQUARE: [u32; 8] = [
 /// A triangle whose third corner lies beyond 180 degrees.
 const BEYOND: [u32; 6] = [0, 0, 0, 960, 32, 1327104001];
 
+/// A bow-tie whose first corner is given twice: the first edge that has a length starts at corner 1.
+const CROSSED: [u32; 10] = [0, 0, 0, 0, 32, 960, 0, 960, 32, 0];
+
 /// A room. That of 22 is longer than a code, so that it is seen what stays as it was.
 fn dots(length: usize) -> Vec<u8> {
     vec![b'.'; length]
@@ -59,6 +62,8 @@ fn refused_coding() {
     show_plain(0, &SQUARE, Kind::Building, 1);
     show_quick(22, &SQUARE[..7], Kind::Building, 1);
     show_quick(22, &BEYOND, Kind::Other, 0);
+    show_quick(22, &CROSSED, Kind::Other, 0);
+    show_plain(22, &CROSSED, Kind::Other, 0);
     show_quick(22, &SQUARE, Kind::Other, 1);
 }
 

@@ -12,6 +12,9 @@
  *      4   a coordinate above its range: latitude 663,552,000, longitude 1,327,104,000;
  *          the place is the first such corner
  *      5   an extent above 7,372,800
+ *     31   the boundary is crossed: two of its edges, those of no length left out, share a point other
+ *          than the corner at which one follows the other; the place is the corner where the first
+ *          edge of the first such pair starts
  *      6   building with a number not in 1 to 1,048,575, or other kind with a number not 0
  *      7   no cell of levels 9 to 27 is inside
  *      8   a span above 31
@@ -33,7 +36,7 @@
  *     24   E or N is not 2 to 31, W or S not 1 to 31
  *     25   the unit number is above 1,048,575
  *
- * Checks run in the order of the numbers, and the first that refuses is told. Places count from 0;
+ * Checks run in the order of the table, and the first that refuses is told. Places count from 0;
  * where none is named the place is 0. Acceptance of coding and of writing writes bytes 0 to 19 of the
  * room and no others. A refusal writes nothing. There is no byte 0 after a code.
  *
@@ -98,14 +101,14 @@ struct linenspruce_reading {
 };
 
 /* Codes a unit by the quick road. The numbers are the corners' latitude, longitude, latitude, .. and
- * their count is of numbers, two a corner. Replies 0 to 8. */
+ * their count is of numbers, two a corner. Replies 0 to 8 and 31. */
 struct linenspruce_reply linenspruce_code_quick(
     uint8_t *room, size_t room_length,
     const uint32_t *numbers, size_t numbers_count,
     struct linenspruce_kind kind, uint32_t number);
 
 /* The same answer by the plain road, which tries the cells of each level in turn. It is for
- * comparison on small units: with a large thin one it takes very long. Replies 0 to 8. */
+ * comparison on small units: with a large thin one it takes very long. Replies 0 to 8 and 31. */
 struct linenspruce_reply linenspruce_code_plain(
     uint8_t *room, size_t room_length,
     const uint32_t *numbers, size_t numbers_count,

@@ -5,8 +5,9 @@ ghost use lib.ListN.{length};
 ghost use Rattle.replies.specs.Replies.{run};
 ghost use Rattle.corners.specs.Corners.{cornersOf};
 ghost use Rattle.unit.specs.Extents.{extremesOf};
-ghost use Rattle.unit.specs.Unit.{badNumber, roomCheck, shapeChecks, groundChecks, numberCheck};
+ghost use Rattle.unit.specs.Unit.{badNumber, roomCheck, shapeChecks, crossedCheck, groundChecks, numberCheck};
 ghost use Rattle.unit.specs.Frame.{says, firstChecks, tells, admitting};
+use crossed::Met;
 use ground::DEGREE;
 use ground::Rectangle;
 use unit::Admission;
@@ -38,7 +39,21 @@ fn shape_checks(numbers: &[u32]) -> Coded
     Coded::Accepted
 }
 
-// What checks 4 and 5 say of at most 1,024 corners and their extremes.
+// What check 31 says of at most 1,024 corners.
+fn crossed_check(numbers: &[u32]) -> Coded
+    requires { ⌜ length (now numbers) / 2 ≤ 1024 ⌝ }
+    ensures { λ r. ⌜ says r ≡ run (crossedCheck (cornersOf (now (numbers .entry)))) ⌝ }
+{
+    match crossed::first_pair(numbers) {
+        Met::Pair(first, _) => {
+            let corner = first as u32;
+            Coded::Crossed(corner)
+        }
+        Met::Nowhere => Coded::Accepted,
+    }
+}
+
+// What checks 4, 5 and 31 say of at most 1,024 corners and their extremes.
 fn ground_checks(numbers: &[u32], r: Rectangle) -> Coded
     requires { ⌜ length (now numbers) / 2 ≤ 1024 ⌝ }
     requires { ⌜ r ≡ extremesOf (cornersOf (now numbers)) ⌝ }
@@ -52,7 +67,7 @@ fn ground_checks(numbers: &[u32], r: Rectangle) -> Coded
     if DEGREE < extents::span(r) {
         return Coded::Extent;
     }
-    Coded::Accepted
+    crossed_check(numbers)
 }
 
 // Whether a number is none that a unit of a kind can have.
@@ -75,7 +90,7 @@ fn number_check(kind: Kind, number: u32) -> Coded
     Coded::Accepted
 }
 
-// What checks 1 to 6 say of so many bytes of room: the first that refuses, or acceptance.
+// What these tables together say of so many bytes of room: the first refusal, or acceptance.
 fn checks(room: usize, numbers: &[u32], r: Rectangle, kind: Kind, number: u32) -> Coded
     requires { ⌜ r ≡ extremesOf (cornersOf (now numbers)) ⌝ }
     ensures { λ r. ⌜ says r ≡ run (firstChecks room (now (numbers .entry)) kind number) ⌝ }
@@ -95,7 +110,7 @@ fn checks(room: usize, numbers: &[u32], r: Rectangle, kind: Kind, number: u32) -
     number_check(kind, number)
 }
 
-// What checks 1 to 6 leave to a road: the refusal of the first that refuses, or the unit's own extremes;
+// What the tables leave to a road: the refusal of the first check that refuses, or the unit's own extremes;
 // a cell is looked for only then. The extremes are worked out once, for check 5 and for the road.
 pub fn admit(room: usize, numbers: &[u32], kind: Kind, number: u32) -> Admission
     ensures { λ r. ⌜ tells r ≡ admitting room (now (numbers .entry)) kind number ⌝ }

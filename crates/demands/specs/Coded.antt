@@ -1,15 +1,15 @@
 -- The mission's demand 2 in one statement: an accepted unit gets the code of its chosen cell, and 7 is said where no cell is inside, and
 -- only there. Assumes nothing.
-use Prim.Native.Nat.{ℕ, _<_}
+use Prim.Native.Nat.{ℕ}
 use native.Mathlib.Omega.{arith}
 use mathlib.Core.Path.{_≡_, refl, ap, ap₂, sym, _∙_}
-use mathlib.Core.Bool.{Bool, true, false, cond, _&&_}
+use mathlib.Core.Bool.{Bool, true, false, cond, not, _&&_}
 use mathlib.Core.List.{List, [], _∷_}
-use lib.Dec.{T, eqb, ltb, ltb→lt}
+use lib.Dec.{T, eqb}
 use lib.ListN.{length, take, drop}
 use lib.Seq.{take-at}
-use borrow.Author.Tests.{eqb-true, eqb-false}
-use Rattle.facts.specs.Tests.{both-hold}
+use borrow.Author.Tests.{eqb-true, eqb-false, not-true}
+use Rattle.facts.specs.Tests.{true-of, both-hold}
 use Rattle.replies.specs.Replies.{Said, refused, accepted, Check, check, run, outcome}
 use Rattle.ground.specs.declared.Rectangle.{Rectangle}
 use Rattle.ground.specs.declared.Cell.{Cell}
@@ -42,30 +42,31 @@ pub record CodeOfChosen (numbers : List ℕ) (number : ℕ) (later : List ℕ) :
   pub chosen : Chosen (boundaryOf numbers) cell
   pub written : take 20 later ≡ codeOf (fieldsOf (extremesOf (cornersOf numbers)) number cell)
 
--- Checks 1 to 6 pass
+-- The checks before a cell is looked for pass
 abbrev pub Checked : List ℕ → List ℕ → Kind → ℕ → Type 0
 Checked room numbers kind number = run (firstChecks (length room) numbers kind number) .number ≡ 0
 
--- Demand 2: what coding accepts has the code of its chosen cell; where it refuses 7, checks 1 to 6 pass and no cell is inside; and where
--- they pass and none is, it refuses 7
+-- Demand 2: what coding accepts has the code of its chosen cell; where it refuses 7, the checks before a cell is looked for pass and no
+-- cell is inside; and where they pass and none is, it refuses 7
 pub record AsDemanded (room numbers : List ℕ) (kind : Kind) (number : ℕ) : Type 0 where
   pub accepts : coding room numbers kind number .said ≡ accepted → CodeOfChosen numbers number (coding room numbers kind number .room)
   pub refuses : coding room numbers kind number .said .number ≡ 7 → Checked room numbers kind number × NoneInside numbers
   pub only : Checked room numbers kind number → NoneInside numbers → coding room numbers kind number .said ≡ refused 7 0
 
--- The rows of a table have numbers below 7
-abbrev below7 : List Check → Bool
-below7 [] = true
-below7 (c ∷ cs) = ltb (c .number) 7 && below7 cs
+-- No row of a table has number 7
+abbrev without7 : List Check → Bool
+without7 [] = true
+without7 (c ∷ cs) = not (eqb (c .number) 7) && without7 cs
 
--- so it says a number below 7
-says-below : (cs : List Check) → T (below7 cs) → run cs .number < 7
-says-below [] t = omega arith
-says-below (c ∷ cs) t =
-    let ts = both-hold (ltb (c .number) 7) (below7 cs) t in
-    at (c .refuses) (ltb→lt (c .number) 7 (ts .0)) (says-below cs (ts .1))
+-- so it says another number
+says-other : (cs : List Check) → T (without7 cs) → run cs .number ≡ 7 → ⊥
+says-other [] t e = omega arith
+says-other (c ∷ cs) t e =
+    let seven : Bool = eqb (c .number) 7 in
+    let ts = both-hold (not seven) (without7 cs) t in
+    at (c .refuses) (eqb-false (c .number) 7 (not-true seven (true-of (not seven) (ts .0)))) (says-other cs (ts .1)) e
   where
-    at : (b : Bool) → c .number < 7 → run cs .number < 7 → cond b (refused (c .number) (c .place)) (run cs) .number < 7
+    at : (b : Bool) → (c .number ≡ 7 → ⊥) → (run cs .number ≡ 7 → ⊥) → cond b (refused (c .number) (c .place)) (run cs) .number ≡ 7 → ⊥
     at true h later = h
     at false h later = later
 
@@ -94,7 +95,7 @@ module _ (room numbers : List ℕ) (kind : Kind) (number : ℕ) where
       ∙ take-at (codeOf f) (drop 20 room) 20 (code-twenty f)
       ∙ ap (codeAt r number) (sym (c .chosen))
 
-  -- A search takes for granted what it may, where checks 1 to 6 pass
+  -- A search takes for granted what it may, where those checks pass
   over : Checked room numbers kind number → Over (extremesOf (cornersOf numbers)) (boundaryOf numbers)
   over e = over-range (cornersOf numbers) (entered (length room) numbers kind number e .ground .range)
 
@@ -110,10 +111,10 @@ module _ (room numbers : List ℕ) (kind : Kind) (number : ℕ) where
   abbrev firsts : List Check
   firsts = firstChecks (length room) numbers kind number
 
-  -- Checks 1 to 6 say a number below 7
-  firsts-below : run firsts .number < 7
+  -- They say another number than 7
+  firsts-other : run firsts .number ≡ 7 → ⊥
   unfolding firstChecks
-  firsts-below = says-below firsts tt
+  firsts-other = says-other firsts tt
 
   refuses : coding room numbers kind number .said .number ≡ 7 → Checked room numbers kind number × NoneInside numbers
   unfolding coding
@@ -127,7 +128,7 @@ module _ (room numbers : List ℕ) (kind : Kind) (number : ℕ) where
           (pass, choose-none (over pass) none)
       at false k =
           let first = ap (λ (s : Said). s .number) (first-refuses (length room) numbers kind number (eqb-false (run firsts .number) 0 k)) in
-          let none : ⊥ = omega (arith, firsts-below, first, e) in absurd none
+          absurd (firsts-other (sym first ∙ e))
 
   only : Checked room numbers kind number → NoneInside numbers → coding room numbers kind number .said ≡ refused 7 0
   unfolding coding

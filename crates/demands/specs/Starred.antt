@@ -15,9 +15,11 @@ use Rattle.ground.specs.Levels.{second, minute, degree, sizeOf}
 use Rattle.ground.specs.Cells.{afresh, lowSide, highSide, sidesOf, locationCell, cornerOf}
 use Rattle.ground.specs.Rectangles.{at, southWest, centreOf}
 use Rattle.letters.specs.Letters.{letters, spelledIn}
-use Rattle.boundary.specs.Boundary.{edgesOf, groundInside}
+use Rattle.boundary.specs.Boundary.{edgesOf, placesOf, groundInside}
 use Rattle.side.specs.Side.{left, leftOrOn}
 use Rattle.edge.specs.Edge.{misses, crossesEast}
+use Rattle.pair.specs.Pair.{overlapping, sharePoint, shareMore}
+use Rattle.crossed.specs.Crossed.{placedOf, meet, pairOf}
 use Rattle.location.specs.Location.{bitsOf, angleIn, paired, latters, locationOf}
 use Rattle.spelling.specs.Spelling.{spelledBoth, textChecks, numbersIn}
 use Rattle.code.specs.Code.{restOf, codeOf, rectangleOf, fieldsIn, locationChecks, spanChecks, Told, readingNumbers, reading}
@@ -159,11 +161,18 @@ unfolding sizeOf
     centreOf
     locationCell
     edgesOf
+    placesOf
     left
     leftOrOn
     misses
     crossesEast
     groundInside
+    overlapping
+    sharePoint
+    shareMore
+    placedOf
+    meet
+    pairOf
     bitsOf
     angleIn
     paired

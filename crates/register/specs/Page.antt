@@ -4,9 +4,11 @@ use Rattle.facts.specs.Texts.{bytes}
 use Rattle.ground.specs.Levels.{sizeOf}
 use Rattle.ground.specs.Cells.{afresh, lowSide, highSide, sidesOf, locationCell}
 use Rattle.ground.specs.Rectangles.{centreOf}
-use Rattle.boundary.specs.Boundary.{edgesOf, groundInside}
+use Rattle.boundary.specs.Boundary.{edgesOf, placesOf, groundInside}
 use Rattle.side.specs.Side.{left, leftOrOn}
 use Rattle.edge.specs.Edge.{misses, crossesEast}
+use Rattle.pair.specs.Pair.{overlapping, sharePoint, shareMore}
+use Rattle.crossed.specs.Crossed.{placedOf, meet, pairOf}
 use Rattle.location.specs.Location.{bitsOf, paired, locationOf}
 use Rattle.spelling.specs.Spelling.{spelledBoth}
 use Rattle.code.specs.Code.{restOf, codeOf}
@@ -28,11 +30,18 @@ unfolding sizeOf
     centreOf
     locationCell
     edgesOf
+    placesOf
     left
     leftOrOn
     misses
     crossesEast
     groundInside
+    overlapping
+    sharePoint
+    shareMore
+    placedOf
+    meet
+    pairOf
     bitsOf
     paired
     locationOf

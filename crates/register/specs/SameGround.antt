@@ -14,7 +14,7 @@ use Rattle.unit.specs.SameGround.{Counted, coding-same}
 use Rattle.lines.specs.Lines.{Reply, coded, refused}
 use Rattle.register.specs.Said.{replyOf, codeSaid}
 
--- "the same code or the same refusal number"; the place of a refusal 4 may differ
+-- "the same code or the same refusal number"; the place of a refusal 4 or 31 may differ
 abbrev pub SameReply : Reply → Reply → Type 0
 SameReply (coded one) (coded other) = one ≡ other
 SameReply (coded one) (refused number place) = ⊥

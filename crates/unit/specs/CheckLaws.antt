@@ -1,5 +1,5 @@
--- The laws of coding's checks (document 01, "Replies"): what each table leaves where it refuses nothing, and what the tables before a
--- cell is looked for leave together. Assumes nothing.
+-- The laws of coding's checks (document 01, "Replies"; document 02, request 1): what each table leaves where it refuses nothing, and what
+-- the tables before a cell is looked for leave together. Assumes nothing.
 use Prim.Native.Nat.{ℕ, suc, _/_, _%_, _≤_}
 use native.Mathlib.Omega.{arith}
 use mathlib.Core.Path.{_≡_, refl}
@@ -19,6 +19,7 @@ use Rattle.ground.specs.declared.Cell.{Cell}
 use Rattle.ground.specs.Levels.{degree, latEnd, lonEnd}
 use Rattle.code.specs.WritingLaws.{within}
 use Rattle.corners.specs.Corners.{cornersOf}
+use Rattle.crossed.specs.Crossed.{crossed}
 use Rattle.unit.specs.declared.Kind.{Kind}
 use Rattle.unit.specs.declared.Kind.the-variants.{Building, Other}
 use Rattle.chosen.specs.declared.Choice.{Choice}
@@ -69,23 +70,25 @@ in-range (p ∷ ps) e = at (aboveRange p) refl e (in-range ps)
         let rest : InRange ps = later (le-ltb (firstPlace aboveRange ps) (length ps) (omega arith)) in
         record { lat = (ltb-false latEnd (p .lat .0) (h .0), rest .lat); lon = (ltb-false lonEnd (p .lon .0) (h .1), rest .lon) }
 
--- Checks 4 and 5 leave every corner within the range, and extents of at most a degree
+-- Checks 4, 5 and 31 leave every corner within the range, extents of at most a degree, and a boundary that is not crossed
 pub record Grounded (corners : List Point) : Type 0 where
   pub range : InRange corners
   pub lat : latExtent (extremesOf corners) ≤ degree
   pub lon : lonExtent (extremesOf corners) ≤ degree
+  pub simple : crossed corners ≡ false
 
 pub grounded : (corners : List Point) → run (groundChecks corners) .number ≡ 0 → Grounded corners
 grounded corners e = at (passed (groundChecks corners) tt e)
   where
     at : Passed (groundChecks corners) → Grounded corners
-    at (above, (wide, _)) =
+    at (above, (wide, (crosses, _))) =
         let r : Rectangle = extremesOf corners in
         let extents = neither (ltb degree (latExtent r)) (ltb degree (lonExtent r)) wide in
         record {
           range = in-range corners above;
           lat = ltb-false degree (latExtent r) (extents .0);
           lon = ltb-false degree (lonExtent r) (extents .1);
+          simple = crosses;
         }
 
 -- Check 6 leaves a number of at most 1,048,575

@@ -31,6 +31,7 @@ says coded.Pairs = refused 2 0
 says coded.Corners = refused 3 0
 says (coded.Range corner) = refused 4 corner
 says coded.Extent = refused 5 0
+says (coded.Crossed corner) = refused 31 corner
 says coded.Number = refused 6 0
 says coded.NoCell = refused 7 0
 says coded.Span = refused 8 0
@@ -39,17 +40,17 @@ says coded.Span = refused 8 0
 abbrev pub leaves : Coded → List ℕ → Outcome
 leaves answer room = record { said = says answer; room = room }
 
--- Checks 1 to 6, before a cell is looked for
+-- The first checks, those before a cell is looked for: 1 to 6, with 31 between 5 and 6
 unfoldable pub firstChecks : ℕ → List ℕ → Kind → ℕ → List Check
 firstChecks room numbers kind number =
     roomCheck room ++ shapeChecks numbers ++ groundChecks (cornersOf numbers) ++ numberCheck kind number
 
--- What checks 1 to 6 leave to a road, in the terms of the definitions
+-- What the first checks leave to a road, in the terms of the definitions
 abbrev pub tells : Admission → Said ⊎ Rectangle
 tells (admission.Refused answer) = inl (says answer)
 tells (admission.Over r) = inr r
 
--- The refusal of checks 1 to 6, or the unit's own extremes where they refuse nothing
+-- The refusal of the first checks, or the unit's own extremes where they refuse nothing
 unfoldable pub admitting : ℕ → List ℕ → Kind → ℕ → Said ⊎ Rectangle
 admitting room numbers kind number =
     let first : Said = run (firstChecks room numbers kind number) in

@@ -1,5 +1,5 @@
--- The laws of the frame: its end around a cell and around none, and that it makes coding whole. Where one of checks 1 to 6 refuses, coding
--- says what it says and leaves the room; else coding is its end around the chosen cell. Assumes nothing.
+-- The laws of the frame: its end around a cell and around none, and that it makes coding whole. Where one of the first checks refuses,
+-- coding says what it says and leaves the room; else coding is its end around the chosen cell. Assumes nothing.
 use Prim.Native.Nat.{ℕ, _-_, _*_, _≤_}
 use native.Mathlib.Nat.{sub-zero}
 use native.Mathlib.Omega.{arith}
@@ -117,7 +117,7 @@ module _ (numbers : List ℕ) {count : ℕ} (counted : count ≡ listedCount num
       ap₂ (λ (n : ℕ) (ns : List ℕ). edgesIn (take n ns)) (ap (λ (n : ℕ). 4 * n - 0) counted ∙ sub-zero (4 * listedCount numbers edgeRoom placeRoom)) e
       ∙ listed-boundary numbers edgeRoom placeRoom (have-room numbers edgeRoom placeRoom (omega (arith, s .most)) (omega (arith, s .most)))
 
--- What checks 1 to 6 leave to a road, from what they say
+-- What the first checks leave to a road, from what they say
 module _ (room : ℕ) (numbers : List ℕ) (kind : Kind) (number : ℕ) where
   abbrev said-first : Said
   said-first = run (firstChecks room numbers kind number)
@@ -160,7 +160,7 @@ module _ (room : ℕ) (numbers : List ℕ) (kind : Kind) (number : ℕ) where
         record { most = entry .shape .most; over = subst (λ (x : Rectangle). Over x (boundaryOf numbers)) (sym (h .0)) over }
 
 module _ (room numbers : List ℕ) (kind : Kind) (number : ℕ) where
-  -- Checks 1 to 6
+  -- The first checks
   abbrev firsts : List Check
   firsts = firstChecks (length room) numbers kind number
 

@@ -15,7 +15,8 @@ use Rattle.unit.specs.Frame.{says, leaves, tells}
 abbrev codedBy : Said → Coded
 codedBy s =
     sought (λ a. says a .number) (s .number) coded.Accepted
-    (coded.Output ∷ coded.Pairs ∷ coded.Corners ∷ coded.Range (s .place) ∷ coded.Extent ∷ coded.Number ∷ coded.NoCell ∷ coded.Span ∷ [])
+    (coded.Output ∷ coded.Pairs ∷ coded.Corners ∷ coded.Range (s .place) ∷ coded.Extent ∷ coded.Crossed (s .place)
+    ∷ coded.Number ∷ coded.NoCell ∷ coded.Span ∷ [])
 
 coded-back : (a : Coded) → codedBy (says a) ≡ a
 coded-back coded.Accepted = refl
@@ -24,6 +25,7 @@ coded-back coded.Pairs = refl
 coded-back coded.Corners = refl
 coded-back (coded.Range corner) = refl
 coded-back coded.Extent = refl
+coded-back (coded.Crossed corner) = refl
 coded-back coded.Number = refl
 coded-back coded.NoCell = refl
 coded-back coded.Span = refl
@@ -45,6 +47,6 @@ admission-back : (c : Admission) → admissionBy (tells c) ≡ c
 admission-back (admission.Refused a) = ap admission.Refused (coded-back a)
 admission-back (admission.Over r) = refl
 
--- Two answers of checks 1 to 6 that leave the same to a road are the same
+-- Two answers of the first checks that leave the same to a road are the same
 pub admission-once : (l : Said ⊎ Rectangle) (a b : Admission) → tells a ≡ l → tells b ≡ l → a ≡ b
 admission-once l a b = said-once tells admissionBy admission-back a b

@@ -24,6 +24,8 @@ use Rattle.code.specs.Code.{outside}
 use Rattle.unit.specs.declared.Kind.{Kind}
 use Rattle.chosen.specs.declared.Choice.{Choice}
 use Rattle.corners.specs.Corners.{cornersOf}
+use Rattle.crossed.specs.Crossed.{pairOf, crossed, startOf}
+use Rattle.crossed.specs.CrossedLaws.{crossed-same}
 use Rattle.unit.specs.Extents.{leastFrom, greatestFrom, least, greatest, extremesOf}
 use Rattle.chosen.specs.Chosen.{Chosen, choose}
 use Rattle.chosen.specs.ChosenLaws.{choose-same}
@@ -213,20 +215,26 @@ first-number false n place rows = refl
 pub number-same : {cs ds : List Point} → SameGround cs ds → (kind : Kind) (number : ℕ)
     → run (cornerChecks cs kind number) .number ≡ run (cornerChecks ds kind number) .number
 unfolding cornerChecks
-number-same {cs} {ds} g kind number = told cs ∙ ap₂ table (extremes-same g) (chosen-cell-same g) ∙ sym (told ds)
+number-same {cs} {ds} g kind number =
+    told cs ∙ (λ i. table (extremes-same g i) (crossed-same g i) (chosen-cell-same g i)) ∙ sym (told ds)
   where
     rows : Rectangle → Choice → List Check
-    rows r c =
-        check 5 (aboveDegree r)
-        ∷ check 6 (badNumber kind number) ∷ check 7 (noCell c) ∷ check 8 (spanAbove r number c) ∷ []
+    rows r c = check 6 (badNumber kind number) ∷ check 7 (noCell c) ∷ check 8 (spanAbove r number c) ∷ []
 
-    table : Rectangle → Choice → ℕ
-    table r c = cond (ltb latEnd (r .north .0) || ltb lonEnd (r .east .0)) 4 (run (rows r c) .number)
+    -- the number alone: the places of 4 and 31 may differ
+    table : Rectangle → Bool → Choice → ℕ
+    table r crosses c =
+        cond (ltb latEnd (r .north .0) || ltb lonEnd (r .east .0)) 4
+        (cond (aboveDegree r) 5 (cond crosses 31 (run (rows r c) .number)))
 
-    told : (cs : List Point) → run (cornerChecks cs kind number) .number ≡ table (extremesOf cs) (chosenCell cs)
+    told : (cs : List Point) → run (cornerChecks cs kind number) .number ≡ table (extremesOf cs) (crossed cs) (chosenCell cs)
     told cs =
-        first-number (ltb (firstPlace aboveRange cs) (length cs)) 4 (firstPlace aboveRange cs) (rows (extremesOf cs) (chosenCell cs))
-        ∙ ap (λ (b : Bool). cond b 4 (run (rows (extremesOf cs) (chosenCell cs)) .number)) (above-is cs)
+        let r : Rectangle = extremesOf cs in
+        let last : List Check = rows r (chosenCell cs) in
+        let crossing : List Check = check-at 31 (crossed cs) (startOf (pairOf cs)) ∷ last in
+        first-number (ltb (firstPlace aboveRange cs) (length cs)) 4 (firstPlace aboveRange cs) (check 5 (aboveDegree r) ∷ crossing)
+        ∙ ap₂ (λ (b : Bool) (n : ℕ). cond b 4 n) (above-is cs)
+        (first-number (aboveDegree r) 5 0 crossing ∙ ap (cond (aboveDegree r) 5) (first-number (crossed cs) 31 (startOf (pairOf cs)) last))
 
 -- Checks 1 to 3 pass
 pub record Counted (room numbers : List ℕ) : Type 0 where

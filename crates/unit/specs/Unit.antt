@@ -1,5 +1,5 @@
--- Coding a unit (document 01, "The twenty characters" and "Replies"): scale, spans, checks 1 to 8, and coding as one function from room,
--- numbers, kind and unit number to reply and room. Assumes nothing.
+-- Coding a unit (document 01, "The twenty characters" and "Replies"; document 02, request 1): scale, spans, checks 1 to 8 and 31, and
+-- coding as one function from room, numbers, kind and unit number to reply and room. Assumes nothing.
 use Prim.Native.Nat.{ℕ, zero, suc, _+_, _-_, _*_, _/_, _%_}
 use Prim.Native.Char.{code}
 use mathlib.Core.Bool.{Bool, true, false, cond, not, _||_}
@@ -22,6 +22,7 @@ use Rattle.chosen.specs.declared.Choice.{Choice}
 use Rattle.chosen.specs.declared.Choice.the-variants.{At, Nowhere}
 use Rattle.corners.specs.Corners.{cornersOf}
 use Rattle.boundary.specs.Boundary.{edgesOf}
+use Rattle.crossed.specs.Crossed.{pairOf, crossed, startOf}
 use Rattle.unit.specs.Extents.{extremesOf, latExtent, lonExtent, spanOf}
 use Rattle.chosen.specs.Chosen.{choose}
 
@@ -87,13 +88,17 @@ aboveRange p = ltb latEnd (p .lat .0) || ltb lonEnd (p .lon .0)
 abbrev pub aboveDegree : Rectangle → Bool
 aboveDegree r = ltb degree (latExtent r) || ltb degree (lonExtent r)
 
--- Check 4, at the first such corner, and check 5
+-- Check 31 (document 02, request 1): crossed; it "names the corner where the pair's first edge starts"
+abbrev pub crossedCheck : List Point → List Check
+crossedCheck corners = check-at 31 (crossed corners) (startOf (pairOf corners)) ∷ []
+
+-- Check 4, at the first such corner, check 5, and 31 "between 5 and 6"
 abbrev pub groundChecks : List Point → List Check
 groundChecks corners =
     let above : ℕ = firstPlace aboveRange corners in
     check-at 4 (ltb above (length corners)) above
     ∷ check 5 (aboveDegree (extremesOf corners))
-    ∷ []
+    ∷ crossedCheck corners
 
 -- Building with a number not in 1 to 1,048,575, or other kind with a number not 0
 abbrev pub badNumber : Kind → ℕ → Bool

@@ -22,7 +22,7 @@ pub fn kind_of(letter: u8) -> Kind
     Kind::Other
 }
 
-// What coding answers: acceptance, or what is refused (1 to 8).
+// What coding answers: acceptance, or what is refused (1 to 8, and 31 between 5 and 6).
 pub enum Coded {
     Accepted,
     Output,
@@ -30,12 +30,14 @@ pub enum Coded {
     Corners,
     Range(u32),
     Extent,
+    Crossed(u32),
     Number,
     NoCell,
     Span,
 }
 
-// What checks 1 to 6 leave to a road: their refusal, or the extents over which it looks for a cell.
+// What the checks before a cell is looked for leave to a road: their refusal, or the extents over which it
+// looks for one.
 pub enum Admission {
     Refused(Coded),
     Over(Rectangle),
@@ -52,13 +54,15 @@ pub fn coded_number(answer: Coded) -> u32
         Coded::Corners => 3,
         Coded::Range(_) => 4,
         Coded::Extent => 5,
+        Coded::Crossed(_) => 31,
         Coded::Number => 6,
         Coded::NoCell => 7,
         Coded::Span => 8,
     }
 }
 
-// The place of an answer of coding: the first corner above its range, or 0.
+// The place of an answer of coding: the first corner above its range, or the corner where the first edge of
+// the first pair that meets starts, or 0.
 pub fn coded_place(answer: Coded) -> u32
     ensures { λ r. ⌜ r ≡ says answer .place ⌝ }
 {
@@ -69,6 +73,7 @@ pub fn coded_place(answer: Coded) -> u32
         Coded::Corners => 0,
         Coded::Range(corner) => corner,
         Coded::Extent => 0,
+        Coded::Crossed(corner) => corner,
         Coded::Number => 0,
         Coded::NoCell => 0,
         Coded::Span => 0,

@@ -1,4 +1,4 @@
--- `checking::admit` meets its contract: the refusal where checks 1 to 6 refuse, else the unit's own extremes. Assumes nothing.
+-- `checking::admit` meets its contract: the refusal where its checks refuse, else the unit's own extremes. Assumes nothing.
 use mathlib.Core.Path.{sym, _∙_}
 use borrow.Author.Needs.{needs}
 use Rattle.unit.specs.FrameLaws.{admitting-refuses, admitting-accepts}

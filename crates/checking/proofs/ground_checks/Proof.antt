@@ -59,8 +59,17 @@ span-requires c κs = search needs
 returns-2 : tie.Need-returns-2
 returns-2 c = rw (none (c .before .before), told (c .before) ∙ lt-ltb degree (c .before .span .result) (omega (arith, c .if2 .taken)))
 
+crossed-check-requires : tie.Need-crossed-check-requires
+crossed-check-requires c κs = search needs
+
 returns-3 : tie.Need-returns-3
-returns-3 c = rw (none (c .before .before), told (c .before) ∙ le-ltb degree (c .before .span .result) (omega (arith, c .if2 .left)))
+returns-3 c =
+    let spanned = c .before .before in
+    rw (
+      none (spanned .before),
+      told spanned ∙ le-ltb degree (spanned .span .result) (omega (arith, c .before .if2 .left)),
+      c .crossed-check .ensures,
+    )
 
 pub ground-checks-spec : {M : Type 1} → statement M
 ground-checks-spec =
@@ -71,4 +80,5 @@ ground-checks-spec =
     returns
     span-requires
     returns-2
+    crossed-check-requires
     returns-3)
