@@ -1,12 +1,13 @@
 // Coding's checks before a cell is looked for, table by table, and what they leave to a road.
 ghost use Prim.Native.Nat.{_/_, _≤_};
 ghost use mathlib.Core.Path.{_≡_};
+ghost use mathlib.Core.List.{_++_};
 ghost use lib.ListN.{length};
 ghost use Rattle.replies.specs.Replies.{run};
 ghost use Rattle.corners.specs.Corners.{cornersOf};
 ghost use Rattle.unit.specs.Extents.{extremesOf};
 ghost use Rattle.unit.specs.Unit.{badNumber, roomCheck, shapeChecks, crossedCheck, groundChecks, numberCheck};
-ghost use Rattle.unit.specs.Frame.{says, firstChecks, tells, admitting};
+ghost use Rattle.unit.specs.Frame.{says, tells, admitting};
 use crossed::Met;
 use ground::DEGREE;
 use ground::Rectangle;
@@ -90,19 +91,23 @@ fn number_check(kind: Kind, number: u32) -> Coded
     Coded::Accepted
 }
 
-// What these tables together say of so many bytes of room: the first refusal, or acceptance.
-fn checks(room: usize, numbers: &[u32], r: Rectangle, kind: Kind, number: u32) -> Coded
-    requires { ⌜ r ≡ extremesOf (cornersOf (now numbers)) ⌝ }
-    ensures { λ r. ⌜ says r ≡ run (firstChecks room (now (numbers .entry)) kind number) ⌝ }
+// What checks 1 to 3 say of so many bytes of room: the first refusal, or acceptance.
+fn early_checks(room: usize, numbers: &[u32]) -> Coded
+    ensures { λ r. ⌜ says r ≡ run (roomCheck room ++ shapeChecks (now (numbers .entry))) ⌝ }
 {
     let roomy = room_check(room);
     if coded_number(roomy) != 0 {
         return roomy;
     }
-    let shaped = shape_checks(numbers);
-    if coded_number(shaped) != 0 {
-        return shaped;
-    }
+    shape_checks(numbers)
+}
+
+// What the tables after these say of at most 1,024 corners and their extremes.
+fn late_checks(numbers: &[u32], r: Rectangle, kind: Kind, number: u32) -> Coded
+    requires { ⌜ length (now numbers) / 2 ≤ 1024 ⌝ }
+    requires { ⌜ r ≡ extremesOf (cornersOf (now numbers)) ⌝ }
+    ensures { λ r. ⌜ says r ≡ run (groundChecks (cornersOf (now (numbers .entry))) ++ numberCheck kind number) ⌝ }
+{
     let grounded = ground_checks(numbers, r);
     if coded_number(grounded) != 0 {
         return grounded;
@@ -111,14 +116,19 @@ fn checks(room: usize, numbers: &[u32], r: Rectangle, kind: Kind, number: u32) -
 }
 
 // What the tables leave to a road: the refusal of the first check that refuses, or the unit's own extremes;
-// a cell is looked for only then. The extremes are worked out once, for check 5 and for the road.
+// a cell is looked for only then. The extremes are worked out once, for check 5 and for the road, and not
+// where no corner has to be looked at.
 pub fn admit(room: usize, numbers: &[u32], kind: Kind, number: u32) -> Admission
     ensures { λ r. ⌜ tells r ≡ admitting room (now (numbers .entry)) kind number ⌝ }
 {
+    let early = early_checks(room, numbers);
+    if coded_number(early) != 0 {
+        return Admission::Refused(early);
+    }
     let r = extents::extremes(numbers);
-    let said = checks(room, numbers, r, kind, number);
-    if coded_number(said) != 0 {
-        return Admission::Refused(said);
+    let late = late_checks(numbers, r, kind, number);
+    if coded_number(late) != 0 {
+        return Admission::Refused(late);
     }
     Admission::Over(r)
 }
