@@ -10,6 +10,7 @@ ghost use Rattle.crossed.specs.Rows.{rowsOf, RowsTo, NearRow, Rooms, Ski
 use crate::meeting::corner;
 use crate::meeting::end_of;
 use crate::meeting::place_after;
+use crate::rows::ROW;
 use crate::rows::row_apart;
 use crate::rows::row_end;
 use ground::Point;
@@ -59,7 +60,7 @@ fn scan_row(numbers: &[u32], extents: &[u32], a: Point, b: Point, from: usize, t
     ensures { λ r. ⌜ (from ≤ r) × (r ≤ to) ⌝ }
     ensures { λ r. ⌜ Skipped (now (numbers .entry)) (edge a b) from r ⌝ }
 {
-    if row_apart(extents, a, b, from / 8) {
+    if row_apart(extents, a, b, from / ROW) {
         return to;
     }
     scan(numbers, a, b, from, to)
@@ -69,8 +70,8 @@ fn scan_row(numbers: &[u32], extents: &[u32], a: Point, b: Point, from: usize, t
 pub(crate) fn ahead(near: &[usize], from: usize) -> usize
     ensures { λ r. ⌜ r ≡ max from (getD (now (near .entry)) (from / 8) 0) ⌝ }
 {
-    if from / 8 < near.len() && from < near[from / 8] {
-        return near[from / 8];
+    if from / ROW < near.len() && from < near[from / ROW] {
+        return near[from / ROW];
     }
     from
 }
@@ -89,7 +90,7 @@ fn leap_rows(numbers: &[u32], extents: &[u32], near: &[usize], i: usize, from: u
     let b = end_of(numbers, i);
     let mut j = ahead(near, from);
     while j < count {
-        let to = row_end(count, j / 8);
+        let to = row_end(count, j / ROW);
         let found = scan_row(numbers, extents, a, b, j, to);
         if found < to {
             return found;

@@ -17,6 +17,9 @@ use ground::Lat;
 use ground::Lon;
 use ground::Point;
 
+// How many edges a row has.
+pub(crate) const ROW: usize = 8;
+
 // The lesser latitude and the lesser longitude of two points.
 fn low(a: Point, b: Point) -> Point
     ensures { λ r. ⌜ r ≡ lowest a b ⌝ }
@@ -43,7 +46,7 @@ pub(crate) fn row_end(count: usize, row: usize) -> usize
     requires { ⌜ count < 9223372036854775808 ⌝ }
     ensures { λ r. ⌜ r ≡ min count (8 * row + 8) ⌝ }
 {
-    let end = 8 * row + 8;
+    let end = ROW * row + ROW;
     if count < end { count } else { end }
 }
 
@@ -56,9 +59,9 @@ fn list_row(numbers: &[u32], extents: &mut [u32], row: usize)
     ensures { λ _. ⌜ RowsTo (now (numbers .entry)) (now (extents .exit)) (row + 1) ⌝ }
 {
     let to = row_end(numbers.len() / 2, row);
-    let mut south_west = corner(numbers, 8 * row);
-    let mut north_east = corner(numbers, 8 * row);
-    let mut i = 8 * row;
+    let mut south_west = corner(numbers, ROW * row);
+    let mut north_east = corner(numbers, ROW * row);
+    let mut i = ROW * row;
     while i < to {
         south_west = low(south_west, end_of(numbers, i));
         north_east = high(north_east, end_of(numbers, i));
@@ -74,7 +77,7 @@ pub(crate) fn list_rows(numbers: &[u32], extents: &mut [u32])
 {
     let count = numbers.len() / 2;
     let mut row = 0;
-    while 8 * row < count {
+    while ROW * row < count {
         list_row(numbers, extents, row);
         row += 1;
     }
@@ -110,7 +113,7 @@ fn list_near(extents: &[u32], rows: usize, own: usize, near: &mut [usize])
     ensures { λ _. ⌜ Near (now (extents .entry)) own rows (now (near .exit)) own ⌝ }
 {
     let mut row = rows;
-    let mut first = 8 * rows;
+    let mut first = ROW * rows;
     near[row] = first;
     while own < row {
         row -= 1;
@@ -120,7 +123,7 @@ fn list_near(extents: &[u32], rows: usize, own: usize, near: &mut [usize])
             corner(extents, 2 * own + 1),
             row,
         ) {
-            first = 8 * row;
+            first = ROW * row;
         }
         near[row] = first;
     }
@@ -134,7 +137,7 @@ pub(crate) fn renew(numbers: &[u32], extents: &[u32], i: usize, near: &mut [usiz
     ensures { λ _. ⌜ length (now (near .exit)) ≡ length (now (near .entry)) ⌝ }
     ensures { λ _. ⌜ NearRow (now (numbers .entry)) (now (near .exit)) (i / 8) ⌝ }
 {
-    if i % 8 == 0 && 0 < near.len() {
-        list_near(extents, (numbers.len() / 2 + 7) / 8, i / 8, near);
+    if i % ROW == 0 && 0 < near.len() {
+        list_near(extents, (numbers.len() / 2 + 7) / ROW, i / ROW, near);
     }
 }
