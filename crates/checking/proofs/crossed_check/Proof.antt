@@ -15,12 +15,13 @@ found : (c : tie.After-first)
     → pairOf (cornersOf (c .before .before .before .before .args .numbers .now)) ≡ Pair (c .first .given .0 .0) (c .first .given .0 .1 .0)
 found c = sym (c .before .before .first-pair .ensures) ∙ c .first .given .1
 
--- names one of at most 1,024 corners
-low : (c : tie.After-first) → c .first .given .0 .0 < 1024
+-- names two of at most 1,024 corners
+low : (c : tie.After-first) → (c .first .given .0 .0 < 1024) × (c .first .given .0 .1 .0 < 1024)
 low c =
     let start = c .before .before .before .before in
     let numbers = start .args .numbers .now in
-    omega (arith, pair-within (cornersOf numbers) (found c) .0, corners-length numbers, start .pre)
+    let within = pair-within (cornersOf numbers) (found c) in
+    (omega (arith, within .0, corners-length numbers, start .pre), omega (arith, within .1, corners-length numbers, start .pre))
 
 first-pair-requires : tie.Need-first-pair-requires
 first-pair-requires c κs = search needs
@@ -29,7 +30,7 @@ enum-known-first : tie.Need-enum-known-first
 enum-known-first c = search needs
 
 cast-corner : tie.Need-cast-corner
-cast-corner c = search (needs, low (c .before))
+cast-corner c = search (needs, low (c .before) .0, low (c .before) .1)
 
 enum-told : tie.Need-enum-told
 enum-told c = search needs
