@@ -8,4 +8,6 @@ pub mod Meeting
 pub mod MeetingLaws
 pub mod Runs
 pub mod Rows
+pub mod NearRows
+pub mod Leaps
 pub mod Searching

@@ -1,7 +1,7 @@
 -- The search for the first pair: what is known before each edge, and before each later one. Assumes nothing.
-use Prim.Native.Nat.{ℕ, suc, _+_, _/_, _%_, _≤_, _<_, max}
+use Prim.Native.Nat.{ℕ, _+_, _/_, _≤_, _<_, max}
 use native.Mathlib.Omega.{arith}
-use mathlib.Core.Path.{_≡_, sym, subst, _∙_}
+use mathlib.Core.Path.{_≡_, subst}
 use mathlib.Core.Logic.{_⊎_, inl, inr}
 use mathlib.Core.Bool.{true, false}
 use mathlib.Core.List.{List}
@@ -14,7 +14,8 @@ use Rattle.crossed.specs.Crossed.{pairOf}
 use Rattle.crossed.specs.Meeting.{meeting}
 use Rattle.crossed.specs.MeetingLaws.{Tried, nowhere, pair-found, apart-meeting}
 use Rattle.crossed.specs.Runs.{Free}
-use Rattle.crossed.specs.Rows.{NearRow, StillNear, Skipped}
+use Rattle.crossed.specs.NearRows.{NearRow, StillNear}
+use Rattle.crossed.specs.Leaps.{Skipped}
 
 -- Before an edge: no earlier one meets a later one, no two up to the end of the run meet, and what is near its row is told within it
 pub record Before (numbers near : List ℕ) (run i : ℕ) : Type 0 where

@@ -3,7 +3,7 @@ ghost use mathlib.Core.Path.{_≡_};
 ghost use lib.ListN.{length};
 ghost use Rattle.corners.specs.Corners.{cornersOf};
 ghost use Rattle.crossed.specs.Crossed.{pairOf};
-ghost use Rattle.crossed.specs.Rows.{Rooms};
+ghost use Rattle.crossed.specs.NearRows.{Rooms};
 use crate::Met;
 use crate::leap::ahead;
 use crate::leap::leap;

@@ -1,7 +1,7 @@
 -- `crossed::first_pair` meets its contract, with rooms for rows or without. Assumes nothing.
 use mathlib.Core.Path.{refl}
 use borrow.Author.Needs.{needs}
-use Rattle.crossed.specs.Rows.{Rooms, without}
+use Rattle.crossed.specs.NearRows.{without}
 use Rattle.crossed.proofs.first_pair.Statement.{statement}
 use Rattle.crossed.proofs.first_pair.Tie as tie
 

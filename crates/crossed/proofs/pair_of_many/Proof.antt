@@ -1,7 +1,7 @@
 -- `crossed::pair_of_many` meets its contract: the rooms hold the rows of up to 1,024 edges. Assumes nothing.
 use native.Mathlib.Omega.{arith}
 use borrow.Author.Needs.{needs}
-use Rattle.crossed.specs.Rows.{Rooms, with}
+use Rattle.crossed.specs.NearRows.{with}
 use Rattle.crossed.proofs.pair_of_many.Statement.{statement}
 use Rattle.crossed.proofs.pair_of_many.Tie as tie
 

@@ -1,8 +1,10 @@
 -- `crossed::leap::leap` meets its contract: by whether there are rooms for rows. Assumes nothing.
+use native.Mathlib.Omega.{arith}
 use mathlib.Core.Path.{ap₂, subst}
 use borrow.Author.Needs.{needs}
 use Rattle.edge.specs.Edge.{Edge, edge}
-use Rattle.crossed.specs.Rows.{Skipped, rooms-with}
+use Rattle.crossed.specs.NearRows.{rooms-held}
+use Rattle.crossed.specs.Leaps.{Skipped}
 use Rattle.crossed.proofs.leap.leap.Statement.{statement}
 use Rattle.crossed.proofs.leap.leap.Tie as tie
 
@@ -27,8 +29,8 @@ returns c =
 leap-rows-requires : tie.Need-leap-rows-requires
 leap-rows-requires c κs =
     let start = c .before .before .before .before in
-    let rooms = rooms-with (start .pre .1 .0) (c .if1 .left) in
-    (start .pre .0, (rooms .0, (rooms .1, start .pre .1 .1)))
+    let rooms = rooms-held (start .pre .1 .0) (omega (arith, c .if1 .left)) in
+    (start .pre .0, (rooms .0, (rooms .1 .1, start .pre .1 .1)))
 
 returns-2 : tie.Need-returns-2
 returns-2 c = search needs

@@ -6,7 +6,7 @@ use lib.ListN.{length}
 use borrow.Author.Needs.{needs}
 use Rattle.edge.specs.Edge.{Edge, edge}
 use Rattle.boundary.specs.Listed.{edgeFrom}
-use Rattle.crossed.specs.Rows.{Skipped, skipped-less, skipped-on, skipped-ahead}
+use Rattle.crossed.specs.Leaps.{Skipped, skipped-less, skipped-on, skipped-ahead}
 use Rattle.crossed.proofs.leap.leap_rows.Statement.{statement}
 use Rattle.crossed.proofs.leap.leap_rows.Tie as tie
 

@@ -6,7 +6,7 @@ use mathlib.Core.Logic.{⊎-elim}
 use borrow.Author.Needs.{needs}
 use Rattle.edge.specs.Edge.{edge}
 use Rattle.boundary.specs.Listed.{edgeFrom}
-use Rattle.crossed.specs.Rows.{Skipped, lats-apart, lons-apart, skipped-none, skipped-less, skipped-again}
+use Rattle.crossed.specs.Leaps.{Skipped, lats-apart, lons-apart, skipped-none, skipped-less, skipped-again}
 use Rattle.crossed.proofs.leap.scan.Statement.{statement}
 use Rattle.crossed.proofs.leap.scan.Tie as tie
 

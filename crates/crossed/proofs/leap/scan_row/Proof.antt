@@ -2,7 +2,7 @@
 use native.Mathlib.Omega.{arith}
 use mathlib.Core.Path.{sym, _∙_}
 use borrow.Author.Needs.{needs}
-use Rattle.crossed.specs.Rows.{skipped-row}
+use Rattle.crossed.specs.Leaps.{skipped-row}
 use Rattle.crossed.proofs.leap.scan_row.Statement.{statement}
 use Rattle.crossed.proofs.leap.scan_row.Tie as tie
 

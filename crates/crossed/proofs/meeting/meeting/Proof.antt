@@ -1,6 +1,6 @@
 -- `crossed::meeting::meeting` meets its contract: an edge of no length meets none. Assumes nothing.
 use mathlib.Core.Path.{_≡_, sym, _∙_}
-use mathlib.Core.Bool.{true, false}
+use mathlib.Core.Bool.{false}
 use borrow.Author.Needs.{needs}
 use borrow.Author.Tests.{not-true, not-false}
 use Rattle.edge.specs.Edge.{noLength}

@@ -7,7 +7,8 @@ use borrow.Author.Tests.{not-false}
 use borrow.Author.Needs.{needs}
 use Rattle.edge.specs.Edge.{Edge, edge}
 use Rattle.boundary.specs.Listed.{edgeIn}
-use Rattle.crossed.specs.Rows.{rowApart, Nearing, nearing-begin, nearing-there, nearing-later, nearing-end}
+use Rattle.crossed.specs.Rows.{rowApart}
+use Rattle.crossed.specs.NearRows.{Nearing, nearing-begin, nearing-there, nearing-later, nearing-end}
 use Rattle.crossed.proofs.rows.list_near.Statement.{statement}
 use Rattle.crossed.proofs.rows.list_near.Tie as tie
 

@@ -6,7 +6,7 @@ use mathlib.Core.Logic.{⊎-elim}
 use lib.ListN.{length}
 use borrow.Author.Tests.{ltb-true, ltb-false}
 use borrow.Author.Needs.{needs}
-use Rattle.crossed.specs.Rows.{near-row, near-none, rooms-held}
+use Rattle.crossed.specs.NearRows.{near-row, near-none, rooms-held}
 use Rattle.crossed.proofs.rows.renew.Statement.{statement}
 use Rattle.crossed.proofs.rows.renew.Tie as tie
 

@@ -5,7 +5,7 @@ use mathlib.Core.Path.{_≡_, refl, sym, subst, _∙_}
 use mathlib.Core.Logic.{⊎-elim}
 use lib.ListN.{length}
 use borrow.Author.Needs.{needs}
-use Rattle.crossed.specs.Rows.{Rooms}
+use Rattle.crossed.specs.NearRows.{Rooms}
 use Rattle.crossed.specs.Searching.{Before, before-first, Between, between-first, between-leap, between-next, before-next, search-nowhere, search-pair}
 use Rattle.crossed.proofs.search.search.Statement.{statement}
 use Rattle.crossed.proofs.search.search.Tie as tie
