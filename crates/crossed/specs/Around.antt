@@ -72,17 +72,17 @@ pair-else Nowhere n = refl
 
 module _ (e f : Placed) where
   -- Two edges of which the second follows the first
-  meet-next : f .place ≡ e .next → meet e f ≡ shareMore (e .line) (f .line)
+  pub meet-next : f .place ≡ e .next → meet e f ≡ shareMore (e .line) (f .line)
   unfolding meet
   meet-next h = rw (eq-eqb (f .place) (e .next) h)
 
   -- of which the first alone follows the second
-  meet-last : (f .place ≡ e .next → ⊥) → e .place ≡ f .next → meet e f ≡ shareMore (f .line) (e .line)
+  pub meet-last : (f .place ≡ e .next → ⊥) → e .place ≡ f .next → meet e f ≡ shareMore (f .line) (e .line)
   unfolding meet
   meet-last h k = rw (ne-eqb (f .place) (e .next) h, eq-eqb (e .place) (f .next) k)
 
   -- and of which neither follows the other
-  meet-other : (f .place ≡ e .next → ⊥) → (e .place ≡ f .next → ⊥) → meet e f ≡ sharePoint (e .line) (f .line)
+  pub meet-other : (f .place ≡ e .next → ⊥) → (e .place ≡ f .next → ⊥) → meet e f ≡ sharePoint (e .line) (f .line)
   unfolding meet
   meet-other h k = rw (ne-eqb (f .place) (e .next) h, ne-eqb (e .place) (f .next) k)
 

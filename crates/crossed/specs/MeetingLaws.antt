@@ -8,18 +8,19 @@ use mathlib.Core.Bool.{Bool, true, false, cond, not, _&&_}
 use mathlib.Core.List.{List, [], _∷_}
 use lib.Dec.{eqb}
 use lib.ListN.{length, getD}
-use borrow.Author.Tests.{not-true, eq-eqb, ne-eqb, eqb-false}
+use borrow.Author.Tests.{not-true, eqb-false}
 use Rattle.facts.specs.Tests.{both, fails-left, fails-right}
 use Rattle.edge.specs.Edge.{Edge, noLength}
 use Rattle.corners.specs.Corners.{cornersOf}
 use Rattle.boundary.specs.Boundary.{withLength, placesFrom}
 use Rattle.boundary.specs.Listed.{placeAfter, edgeFrom}
 use Rattle.boundary.specs.ListedLaws.{edgesAfter, edges-after, edges-over, all-places}
-use Rattle.pair.specs.Pair.{overlapping, sharePoint, shareMore}
+use Rattle.pair.specs.Pair.{overlapping, shareMore}
 use Rattle.pair.specs.PairLaws.{apart-share, apart-more, overlapping-comm}
 use Rattle.crossed.specs.declared.Met.{Met}
 use Rattle.crossed.specs.declared.Met.the-variants.{Pair, Nowhere}
 use Rattle.crossed.specs.Crossed.{Placed, placed, placedOf, meet, orElse, firstLater, firstPair, pairOf}
+use Rattle.crossed.specs.Around.{meet-next}
 use Rattle.crossed.specs.Meeting.{startFrom, following, placedAt, meeting}
 
 -- The place after one of so many is one of them
@@ -91,22 +92,6 @@ module _ (numbers : List ℕ) where
     from-first : noLength (edgeFrom numbers i) ≡ false → from i ≡ placedAt numbers i ∷ from (i + 1)
     unfolding startFrom
     from-first = by-length false
-
-  -- What is asked of two edges: of one that follows the other, of one that the other follows, and of any other two
-  pub meet-after : (i j : ℕ) → j ≡ following numbers i
-      → shareMore (edgeFrom numbers i) (edgeFrom numbers j) ≡ meet (placedAt numbers i) (placedAt numbers j)
-  unfolding meet
-  meet-after i j e = rw (eq-eqb j (following numbers i) e)
-
-  pub meet-before : (i j : ℕ) → (j ≡ following numbers i → ⊥) → i ≡ following numbers j
-      → shareMore (edgeFrom numbers j) (edgeFrom numbers i) ≡ meet (placedAt numbers i) (placedAt numbers j)
-  unfolding meet
-  meet-before i j n e = rw (ne-eqb j (following numbers i) n, eq-eqb i (following numbers j) e)
-
-  pub meet-beside : (i j : ℕ) → (j ≡ following numbers i → ⊥) → (i ≡ following numbers j → ⊥)
-      → sharePoint (edgeFrom numbers i) (edgeFrom numbers j) ≡ meet (placedAt numbers i) (placedAt numbers j)
-  unfolding meet
-  meet-beside i j n m = rw (ne-eqb j (following numbers i) n, ne-eqb i (following numbers j) m)
 
   -- Where the edges from two places meet, both have a length
   lengths : (i j : ℕ) → meeting numbers i j ≡ true
@@ -235,4 +220,4 @@ module _ (numbers : List ℕ) where
       at true l = sym (meeting-second i (i + 1) l)
       at false l =
           fails-right (not (noLength e) && not (noLength f))
-          (sym (meet-after i (i + 1) (sym (start-here (i + 1) (startFrom numbers 0 0) less l))) ∙ t)
+          (meet-next (placedAt numbers i) (placedAt numbers (i + 1)) (sym (start-here (i + 1) (startFrom numbers 0 0) less l)) ∙ t)

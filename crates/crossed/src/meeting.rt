@@ -41,19 +41,12 @@ pub(crate) fn end_of(numbers: &[u32], i: usize) -> Point
     corner(numbers, place_after(numbers.len() / 2, i))
 }
 
-// Whether two corners are two points.
-fn apart(a: Point, b: Point) -> bool
-    ensures { λ r. ⌜ r ≡ not (noLength (record { start = a; end = b })) ⌝ }
-{
-    a.lat.0 != b.lat.0 || a.lon.0 != b.lon.0
-}
-
 // Whether the edge from a place has a length.
 fn has_length(numbers: &[u32], i: usize) -> bool
     requires { ⌜ i < length (now numbers) / 2 ⌝ }
     ensures { λ r. ⌜ r ≡ not (noLength (edgeFrom (now (numbers .entry)) i)) ⌝ }
 {
-    apart(corner(numbers, i), end_of(numbers, i))
+    edge::has_length(corner(numbers, i), end_of(numbers, i))
 }
 
 // The first place, from one on, where an edge starts that has a length; another place where there is none.

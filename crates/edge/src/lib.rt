@@ -125,8 +125,8 @@ fn strictly_within(p: Point, r: Rectangle) -> bool
     strictly_between(r.west.0, p.lon.0, r.east.0) && strictly_between(r.south.0, p.lat.0, r.north.0)
 }
 
-// Whether the ends of an edge are two points.
-fn has_length(a: Point, b: Point) -> bool
+// Whether an edge has a length: its ends are two points.
+pub fn has_length(a: Point, b: Point) -> bool
     ensures { λ m. ⌜ m ≡ not (noLength (edge a b)) ⌝ }
 {
     a.lat.0 != b.lat.0 || a.lon.0 != b.lon.0

@@ -4,10 +4,11 @@ ghost use mathlib.Core.Path.{_≡_};
 ghost use mathlib.Core.Bool.{_&&_, _||_};
 ghost use lib.Dec.{ltb};
 ghost use Rattle.side.specs.Side.{left as Side·left};
-ghost use Rattle.edge.specs.Edge.{edge, noLength};
+ghost use Rattle.edge.specs.Edge.{edge};
 ghost use Rattle.pair.specs.Pair.{overlap as Pair·overlap, overlapping as Pair·overlapping, asideOf, sharePoint, onOneLine, bothBeside, onSameSide, shareMore};
 use angles::greater;
 use angles::lesser;
+use edge::has_length;
 use ground::Point;
 use side::left;
 
@@ -102,17 +103,13 @@ fn turns_back(a: Point, b: Point, c: Point) -> bool
     on_same_side(a, b, c) && on_one_line(a, b, c)
 }
 
-// Whether two points are one.
-fn one_point(a: Point, b: Point) -> bool
-    ensures { λ r. ⌜ r ≡ noLength (edge a b) ⌝ }
-{
-    a.lat.0 == b.lat.0 && a.lon.0 == b.lon.0
-}
-
 // Whether the edge from c to d follows the one from a to b and shares more than their corner with it, for
 // all points.
 pub fn share_more(a: Point, b: Point, c: Point, d: Point) -> bool
     ensures { λ r. ⌜ r ≡ shareMore (edge a b) (edge c d) ⌝ }
 {
-    one_point(b, c) && turns_back(a, b, d)
+    if has_length(b, c) {
+        return false;
+    }
+    turns_back(a, b, d)
 }

@@ -13,13 +13,13 @@ corner-requires c κs = search needs
 end-of-requires : tie.Need-end-of-requires
 end-of-requires c κs = search needs
 
-apart-requires : tie.Need-apart-requires
-apart-requires c κs = search needs
+has-length-requires : tie.Need-has-length-requires
+has-length-requires c κs = search needs
 
 returns : tie.Need-returns
 returns c =
-    c .apart .ensures
+    c .has-length .ensures
     ∙ ap₂ (λ (a b : Point). not (noLength (edge a b))) (c .before .before .corner .ensures) (c .before .end-of .ensures)
 
 pub has-length-spec : {M : Type 1} → statement M
-has-length-spec = tie.close (tie.spec corner-requires end-of-requires apart-requires returns)
+has-length-spec = tie.close (tie.spec corner-requires end-of-requires has-length-requires returns)

@@ -4,7 +4,8 @@ use borrow.Author.Needs.{needs}
 use Rattle.edge.specs.Edge.{edge}
 use Rattle.boundary.specs.Listed.{edgeFrom}
 use Rattle.pair.specs.Pair.{sharePoint, shareMore}
-use Rattle.crossed.specs.MeetingLaws.{meet-after, meet-before, meet-beside}
+use Rattle.crossed.specs.Around.{meet-next, meet-last, meet-other}
+use Rattle.crossed.specs.Meeting.{placedAt}
 use Rattle.crossed.proofs.meeting.meet.Statement.{statement}
 use Rattle.crossed.proofs.meeting.meet.Tie as tie
 
@@ -43,7 +44,7 @@ returns c =
     let a = ends .before .before .before .before .before .args in
     c .share-more .ensures
     ∙ ap₂ shareMore (first (ends .before .before)) (second ends)
-    ∙ meet-after (a .numbers .now) (a .i) (a .j) (c .before .if1 .taken ∙ asked .following .ensures)
+    ∙ sym (meet-next (placedAt (a .numbers .now) (a .i)) (placedAt (a .numbers .now) (a .j)) (c .before .if1 .taken ∙ asked .following .ensures))
 
 following-requires-2 : tie.Need-following-requires-2
 following-requires-2 c κs = search needs
@@ -59,8 +60,9 @@ returns-2 c =
     let a = ends .before .before .before .before .before .args in
     c .share-more2 .ensures
     ∙ ap₂ shareMore (second ends) (first (ends .before .before))
-    ∙ meet-before (a .numbers .now) (a .i) (a .j) (λ e. back .before .if1 .left (e ∙ sym (asked .following .ensures)))
-    (c .before .if2 .taken ∙ back .following2 .ensures)
+    ∙ sym
+    (meet-last (placedAt (a .numbers .now) (a .i)) (placedAt (a .numbers .now) (a .j))
+    (λ e. back .before .if1 .left (e ∙ sym (asked .following .ensures))) (c .before .if2 .taken ∙ back .following2 .ensures))
 
 share-point-requires : tie.Need-share-point-requires
 share-point-requires c κs = search needs
@@ -73,8 +75,9 @@ returns-3 c =
     let a = ends .before .before .before .before .before .args in
     c .share-point .ensures
     ∙ ap₂ sharePoint (first (ends .before .before)) (second ends)
-    ∙ meet-beside (a .numbers .now) (a .i) (a .j) (λ e. back .before .if1 .left (e ∙ sym (asked .following .ensures)))
-    (λ e. c .before .if2 .left (e ∙ sym (back .following2 .ensures)))
+    ∙ sym
+    (meet-other (placedAt (a .numbers .now) (a .i)) (placedAt (a .numbers .now) (a .j))
+    (λ e. back .before .if1 .left (e ∙ sym (asked .following .ensures))) (λ e. c .before .if2 .left (e ∙ sym (back .following2 .ensures))))
 
 pub meet-spec : {M : Type 1} → statement M
 meet-spec =
