@@ -3,6 +3,7 @@ pub mod Around
 pub mod Chains
 pub mod RingLaws
 pub mod CrossedLaws
+pub mod Examples
 pub mod PairPlaces
 pub mod Meeting
 pub mod MeetingLaws
