@@ -18,7 +18,7 @@ use Rattle.letters.specs.Letters.{letters, spelledIn}
 use Rattle.boundary.specs.Boundary.{edgesOf, placesOf, groundInside}
 use Rattle.side.specs.Side.{left, leftOrOn}
 use Rattle.edge.specs.Edge.{misses, crossesEast}
-use Rattle.pair.specs.Pair.{overlapping, sharePoint, shareMore}
+use Rattle.pair.specs.Pair.{overlapping, asideOf, sharePoint, shareMore}
 use Rattle.crossed.specs.Crossed.{placedOf, meet, pairOf}
 use Rattle.location.specs.Location.{bitsOf, angleIn, paired, latters, locationOf}
 use Rattle.spelling.specs.Spelling.{spelledBoth, textChecks, numbersIn}
@@ -168,6 +168,7 @@ unfolding sizeOf
     crossesEast
     groundInside
     overlapping
+    asideOf
     sharePoint
     shareMore
     placedOf
