@@ -29,7 +29,7 @@ placed first (i ∷ is) (e ∷ es) = record { line = e; place = i; next = getD i
 unfoldable pub placedOf : List Point → List Placed
 placedOf corners = placed (getD (placesOf corners) 0 0) (placesOf corners) (edgesOf corners)
 
--- One edge follows another
+-- The first of two edges follows the second
 abbrev pub follows : Placed → Placed → Bool
 follows f e = eqb (f .place) (e .next)
 

@@ -11,7 +11,7 @@ use Rattle.facts.specs.Numbers.{either-way}
 use Rattle.edge.specs.Edge.{Edge}
 use Rattle.boundary.specs.Listed.{edgeIn, edgeFrom}
 use Rattle.pair.specs.Pair.{overlap, overlapping}
-use Rattle.pair.specs.PairLaws.{clear-so}
+use Rattle.pair.specs.PairLaws.{Way, up, across, along, clear-so}
 use Rattle.crossed.specs.Rows.{Held, rowApart, row-clear, rowsOf, RowsTo}
 use Rattle.crossed.specs.NearRows.{NearRow}
 
@@ -19,16 +19,12 @@ use Rattle.crossed.specs.NearRows.{NearRow}
 pub record Skipped (numbers : List ℕ) (e : Edge) (from to : ℕ) : Type 0 where
   pub apart : (y : ℕ) → from ≤ y → y < to → y < length numbers / 2 → overlapping e (edgeFrom numbers y) ≡ false
 
-module _ (e f : Edge) where
-  -- The extents of two edges are apart where their latitudes do not overlap
-  pub lats-apart : overlap (e .start .lat .0) (e .end .lat .0) (f .start .lat .0) (f .end .lat .0) ≡ false → overlapping e f ≡ false
-  unfolding overlapping
-  lats-apart h = fails-left (overlap (e .start .lon .0) (e .end .lon .0) (f .start .lon .0) (f .end .lon .0)) h
-
-  -- and where their longitudes do not
-  pub lons-apart : overlap (e .start .lon .0) (e .end .lon .0) (f .start .lon .0) (f .end .lon .0) ≡ false → overlapping e f ≡ false
-  unfolding overlapping
-  lons-apart h = fails-right (overlap (e .start .lat .0) (e .end .lat .0) (f .start .lat .0) (f .end .lat .0)) h
+-- The extents of two edges are apart where they do not overlap in a direction
+pub apart-along : (e f : Edge) (w : Way) → overlap (along w (e .start)) (along w (e .end)) (along w (f .start)) (along w (f .end)) ≡ false
+    → overlapping e f ≡ false
+unfolding overlapping
+apart-along e f up h = fails-left (overlap (e .start .lon .0) (e .end .lon .0) (f .start .lon .0) (f .end .lon .0)) h
+apart-along e f across h = fails-right (overlap (e .start .lat .0) (e .end .lat .0) (f .start .lat .0) (f .end .lat .0)) h
 
 -- At first nothing is skipped
 pub skipped-none : (numbers : List ℕ) (e : Edge) (from : ℕ) → Skipped numbers e from from

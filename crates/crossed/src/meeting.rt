@@ -13,7 +13,8 @@ use ground::Lat;
 use ground::Lon;
 use ground::Point;
 
-// The corner at a place.
+// The corner at a place. It is asked for most of all here, so it asks that the place is in the list, where
+// `corners::corner` has an answer for all.
 pub(crate) fn corner(numbers: &[u32], i: usize) -> Point
     requires { ⌜ i < length (now numbers) / 2 ⌝ }
     ensures { λ p. ⌜ p ≡ cornerAt (now (numbers .entry)) i ⌝ }

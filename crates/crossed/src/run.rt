@@ -8,7 +8,8 @@ use crate::meeting::corner;
 use crate::meeting::end_of;
 use ground::Point;
 
-// The most edges among which no runs and no rows are looked for: they would cost more than they save.
+// The most edges among which no rows are looked for, and no runs longer than two edges: they would cost
+// more than they save.
 pub(crate) const FEW: usize = 16;
 
 // The courses that an edge can take strictly.

@@ -17,7 +17,7 @@ overlapping e f =
     overlap (e .start .lat .0) (e .end .lat .0) (f .start .lat .0) (f .end .lat .0)
     && overlap (e .start .lon .0) (e .end .lon .0) (f .start .lon .0) (f .end .lon .0)
 
--- An edge has both ends strictly on one side of another's line
+-- Both ends of the second edge are strictly on one side of the first's line
 unfoldable pub asideOf : Edge → Edge → Bool
 asideOf e f =
     left (e .start) (e .end) (f .start) && left (e .start) (e .end) (f .end)

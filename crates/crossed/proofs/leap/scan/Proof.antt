@@ -6,7 +6,8 @@ use mathlib.Core.Logic.{⊎-elim}
 use borrow.Author.Needs.{needs}
 use Rattle.edge.specs.Edge.{edge}
 use Rattle.boundary.specs.Listed.{edgeFrom}
-use Rattle.crossed.specs.Leaps.{Skipped, lats-apart, lons-apart, skipped-none, skipped-less, skipped-again}
+use Rattle.pair.specs.PairLaws.{up, across}
+use Rattle.crossed.specs.Leaps.{Skipped, apart-along, skipped-none, skipped-less, skipped-again}
 use Rattle.crossed.proofs.leap.scan.Statement.{statement}
 use Rattle.crossed.proofs.leap.scan.Tie as tie
 
@@ -44,7 +45,7 @@ loop-again c =
     let f = edgeFrom (a .numbers .now) (at .loop .j) in (
       omega (arith, at .loop .inv .0),
       skipped-again (at .loop .inv .1)
-          (⊎-elim (λ w. lons-apart e f (sym (w .1 .ensures) ∙ w .2 .left)) (λ w. lats-apart e f (sym (c .before .lats-overlap .ensures) ∙ w .left))
+          (⊎-elim (λ w. apart-along e f across (sym (w .1 .ensures) ∙ w .2 .left)) (λ w. apart-along e f up (sym (c .before .lats-overlap .ensures) ∙ w .left))
           (c .if1 .came)),
     )
 
