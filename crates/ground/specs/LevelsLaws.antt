@@ -1,12 +1,12 @@
 -- The laws of the levels' sizes, each for the level as a parameter: a test that the checker computes over all levels, turned into the rule at
 -- each level. Assumes nothing.
-use Prim.Native.Nat.{ℕ, _+_, _%_, _≤_, _<_}
+use Prim.Native.Nat.{ℕ, suc, _+_, _*_, _%_, _≤_, _<_}
 use native.Mathlib.Omega.{arith}
 use mathlib.Core.Path.{_≡_}
 use mathlib.Core.Bool.{Bool}
 use lib.Dec.{T, leb, eqb, leb→le, eqb→eq}
 use Rattle.facts.specs.Lists.{countUp, count-all, every, every-in}
-use Rattle.ground.specs.Levels.{degree, coarsestLevel, IsLevel, smallestSize, sizeOf}
+use Rattle.ground.specs.Levels.{degree, coarsestLevel, finestLevel, IsLevel, smallestSize, sizeOf}
 
 -- What a test says of a level, where each of so many levels from the coarsest on passes it
 pub at-level : (test : ℕ → Bool) (n : ℕ) → T (every test (countUp n coarsestLevel)) → (level : ℕ) → coarsestLevel ≤ level
@@ -35,3 +35,10 @@ pub size-even : (level : ℕ) → coarsestLevel ≤ level → level ≤ 26 → s
 unfolding sizeOf
 size-even level low high =
     eqb→eq (sizeOf level % 64) 0 (at-level (λ n. eqb (sizeOf n % 64) 0) 18 tt level low (omega arith))
+
+-- A level's size is at least 15/8 of the next finer one's
+pub size-step : (level : ℕ) → coarsestLevel ≤ level → level < finestLevel → sizeOf (suc level) * 15 ≤ sizeOf level * 8
+unfolding sizeOf
+size-step level low high =
+    leb→le (sizeOf (suc level) * 15) (sizeOf level * 8)
+    (at-level (λ n. leb (sizeOf (suc n) * 15) (sizeOf n * 8)) 18 tt level low (omega arith))

@@ -1,12 +1,13 @@
--- The laws of checks that run in order: tables one after the other, and what a table that says number 0 leaves. Assumes nothing.
-use Prim.Native.Nat.{_<_}
+-- The laws of checks that run in order: tables one after the other, what a table that says number 0 leaves, and which numbers it never
+-- says. Assumes nothing.
+use Prim.Native.Nat.{ℕ, _<_}
 use native.Mathlib.Omega.{arith}
 use mathlib.Core.Path.{_≡_, refl, sym, ap, _∙_}
-use mathlib.Core.Bool.{Bool, true, false, cond, _&&_}
+use mathlib.Core.Bool.{Bool, true, false, cond, not, _&&_}
 use mathlib.Core.List.{List, [], _∷_, _++_}
 use lib.Dec.{T, ltb, eqb, ltb→lt}
-use borrow.Author.Tests.{eqb-true, eqb-false, eq-eqb, ne-eqb}
-use Rattle.facts.specs.Tests.{both-hold}
+use borrow.Author.Tests.{eqb-true, eqb-false, eq-eqb, ne-eqb, not-true}
+use Rattle.facts.specs.Tests.{true-of, both-hold}
 use Rattle.replies.specs.Replies.{Said, refused, Check, run}
 
 -- No row of a table has number 0, which is acceptance's
@@ -30,6 +31,23 @@ passed (c ∷ cs) t e =
         → (b ≡ false) × Passed cs
     at true h k ih = let none : ⊥ = omega arith in absurd none
     at false h k ih = (refl, ih k)
+
+-- No row of a table has a number
+abbrev pub without : ℕ → List Check → Bool
+without n [] = true
+without n (c ∷ cs) = not (eqb (c .number) n) && without n cs
+
+-- so the table never says it
+pub never-says : (n : ℕ) → 0 < n → (cs : List Check) → T (without n cs) → run cs .number ≡ n → ⊥
+never-says n some [] t e = omega arith
+never-says n some (c ∷ cs) t e =
+    let same : Bool = eqb (c .number) n in
+    let ts = both-hold (not same) (without n cs) t in
+    at (c .refuses) (eqb-false (c .number) n (not-true same (true-of (not same) (ts .0)))) (never-says n some cs (ts .1)) e
+  where
+    at : (b : Bool) → (c .number ≡ n → ⊥) → (run cs .number ≡ n → ⊥) → cond b (refused (c .number) (c .place)) (run cs) .number ≡ n → ⊥
+    at true h later = h
+    at false h later = later
 
 -- Two tables, one after the other: the first's refusal, or what the second says
 pub run-append : (cs ds : List Check) → T (numbered cs) → run (cs ++ ds) ≡ cond (eqb (run cs .number) 0) (run ds) (run cs)

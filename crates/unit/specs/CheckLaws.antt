@@ -25,8 +25,8 @@ use Rattle.unit.specs.declared.Kind.the-variants.{Building, Other}
 use Rattle.chosen.specs.declared.Choice.{Choice}
 use Rattle.chosen.specs.declared.Choice.the-variants.{At, Nowhere}
 use Rattle.unit.specs.Extents.{extremesOf, latExtent, lonExtent, spanOf}
-use Rattle.unit.specs.Unit.{fieldsOf, chosenCell, aboveRange, aboveDegree, above31}
-use Rattle.unit.specs.Unit.{roomCheck, shapeChecks, groundChecks, numberCheck, cellChecks, cornerChecks, codeChecks}
+use Rattle.unit.specs.Unit.{chosenCell, aboveRange, aboveDegree}
+use Rattle.unit.specs.Unit.{roomCheck, shapeChecks, groundChecks, numberCheck, cellCheck, cornerChecks, codeChecks}
 use Rattle.unit.specs.ExtentsLaws.{InRange}
 use Rattle.unit.specs.Frame.{firstChecks}
 
@@ -121,38 +121,37 @@ entered room numbers kind number e =
       most = number-most kind number (third .1);
     }
 
--- Checks 7 and 8 leave a cell whose fields have no span above 31
-pub record Celled (r : Rectangle) (number : ℕ) (choice : Choice) : Type 0 where
+-- Check 7 leaves a cell
+pub record Celled (choice : Choice) : Type 0 where
   pub cell : Cell
   pub chosen : choice ≡ At cell
-  pub spans : above31 (fieldsOf r number cell) ≡ false
 
-pub celled : (r : Rectangle) (number : ℕ) (choice : Choice) → run (cellChecks r number choice) .number ≡ 0 → Celled r number choice
-celled r number choice e = at choice (passed (cellChecks r number choice) tt e)
+pub celled : (choice : Choice) → run (cellCheck choice) .number ≡ 0 → Celled choice
+celled choice e = at choice (passed (cellCheck choice) tt e)
   where
-    at : (choice : Choice) → Passed (cellChecks r number choice) → Celled r number choice
-    at (At c) (none, (above, _)) = record { cell = c; chosen = refl; spans = above }
-    at Nowhere (none, (above, _)) = absurd (true≢false none)
+    at : (choice : Choice) → Passed (cellCheck choice) → Celled choice
+    at (At c) _ = record { cell = c; chosen = refl }
+    at Nowhere (none, _) = absurd (true≢false none)
 
 module _ (room : ℕ) (numbers : List ℕ) (kind : Kind) (number : ℕ) where
-  -- Coding's checks are those before a cell is looked for, and then those of the chosen cell
+  -- Coding's checks are those before a cell is looked for, and then that of the chosen cell
   abbrev firsts : List Check
   firsts = firstChecks room numbers kind number
 
   abbrev lasts : List Check
-  lasts = cellChecks (extremesOf (cornersOf numbers)) number (chosenCell (cornersOf numbers))
+  lasts = cellCheck (chosenCell (cornersOf numbers))
 
   -- What the first say, where one of them refuses, coding says
   pub first-refuses : (run firsts .number ≡ 0 → ⊥) → run (codeChecks room numbers kind number) ≡ run firsts
   unfolding firstChecks cornerChecks
   first-refuses = run-first firsts lasts tt
 
-  -- and where none does, what the last say
+  -- and where none does, what the last says
   pub first-accepts : run firsts .number ≡ 0 → run (codeChecks room numbers kind number) ≡ run lasts
   unfolding firstChecks cornerChecks
   first-accepts = run-second firsts lasts tt
 
-  -- Where coding refuses nothing, neither do
+  -- Where coding refuses nothing, neither does
   pub all-accept : run (codeChecks room numbers kind number) .number ≡ 0 → (run firsts .number ≡ 0) × (run lasts .number ≡ 0)
   unfolding firstChecks cornerChecks
   all-accept = both-pass firsts lasts tt

@@ -1,21 +1,21 @@
 -- The rectangle read back covers the unit (document 01, "Four spans" and "Reading back"): the fields of a cell that is inside are good,
--- each side lies at or beyond the unit's own extreme, by less than s, and so it is with the bytes that coding leaves. Assumes nothing.
+-- each side lies at or beyond the unit's own extreme, by less than the size of the scale that the code has (document 02, request 2), and
+-- so it is with the bytes that coding leaves. Assumes nothing.
 use Prim.Native.Nat.{ℕ, _+_, _-_, _*_, _/_, _≤_, _<_, min}
 use native.Mathlib.Nat.{div-mul-le-self, lt-div-mul-add}
 use native.Mathlib.Omega.{arith}
 use mathlib.Core.Path.{_≡_, refl, ap, ap₂, sym, subst, _∙_}
-use mathlib.Core.Bool.{true, false, _||_}
+use mathlib.Core.Bool.{true}
 use mathlib.Core.List.{List}
-use lib.Dec.{ltb}
 use lib.ListN.{length, getD, take}
-use borrow.Author.Tests.{ltb-false}
 use Rattle.replies.specs.Replies.{Said, accepted, Outcome, outcome}
-use Rattle.facts.specs.Tests.{true-of, neither}
+use Rattle.facts.specs.Tests.{true-of}
 use Rattle.ground.specs.declared.Point.{Point}
 use Rattle.ground.specs.declared.Rectangle.{Rectangle}
 use Rattle.ground.specs.declared.Cell.{Cell}
 use Rattle.angles.specs.Angles.{distance}
-use Rattle.ground.specs.Levels.{latEnd, lonEnd, sizeOf}
+use Rattle.ground.specs.Levels.{latEnd, lonEnd, IsLevel, sizeOf}
+use Rattle.ground.specs.LevelsLaws.{size-least}
 use Rattle.ground.specs.Cells.{IsCell, locationCell, cornerOf}
 use Rattle.ground.specs.CellsLaws.{Reference}
 use Rattle.code.specs.declared.Fields.{Fields}
@@ -29,14 +29,14 @@ use Rattle.facts.specs.Lists.{each-at}
 use Rattle.unit.specs.declared.Kind.{Kind}
 use Rattle.chosen.specs.declared.Choice.{Choice}
 use Rattle.chosen.specs.declared.Choice.the-variants.{At}
-use Rattle.unit.specs.Extents.{extremesOf, spanOf}
-use Rattle.unit.specs.Unit.{scaleOf, spanCells, fieldsOf, codeAt, chosenCell, above31, coding}
-use Rattle.unit.specs.ScaleLaws.{scale-size, scale-written}
+use Rattle.unit.specs.Extents.{extremesOf}
+use Rattle.unit.specs.Unit.{spanCells, fieldsAt, levelOf, fieldsOf, codeAt, chosenCell, coding}
 use Rattle.unit.specs.ExtentsLaws.{extremes-hold, over-range}
 use Rattle.chosen.specs.Chosen.{Over}
 use Rattle.chosen.specs.ChosenLaws.{choose-chosen}
 use Rattle.unit.specs.CheckLaws.{Grounded, Entered, entered, celled, all-accept}
-use Rattle.unit.specs.SpansLaws.{reference-lat, reference-lon, fields-least}
+use Rattle.unit.specs.SpansLaws.{ReferenceIn, reference-in, spans-least}
+use Rattle.unit.specs.TailsLaws.{Fits, one-step}
 
 -- So many cells of size s, less one, reach a distance, by less than s beyond it
 pub record Rounded (s d n : ℕ) : Type 0 where
@@ -77,55 +77,59 @@ pub record Covers (r around : Rectangle) (s : ℕ) : Type 0 where
 abbrev pub unitFields : List Point → ℕ → Cell → Fields
 unitFields corners number c = fieldsOf (extremesOf corners) number c
 
--- A cell that is inside a unit whose corners, extents, number and spans no check refuses
+-- A cell that is inside a unit whose corners, extents and number no check refuses
 pub record Passing (corners : List Point) (number : ℕ) (c : Cell) : Type 0 where
   pub ground : Grounded corners
   pub most : number ≤ 1048575
   pub cell : IsCell c
   pub within : inside (edgesOf corners) c ≡ true
-  pub spans : above31 (unitFields corners number c) ≡ false
 
 module _ {corners : List Point} {number : ℕ} {c : Cell} (p : Passing corners number c) where
   -- A search over them could take for granted what it does
   over : Over (extremesOf corners) (edgesOf corners)
   over = over-range corners (p .ground .range)
 
-  -- The reference lies between the extremes
-  lat-between : Reference (extremesOf corners .south .0) (extremesOf corners .north .0) (cornerOf (locationCell c) .lat .0)
-  lat-between = reference-lat over c (p .cell) (p .within)
+  -- The reference lies within the extents, and the level from it is one
+  abbrev reference : Point
+  reference = cornerOf (locationCell c)
 
-  lon-between : Reference (extremesOf corners .west .0) (extremesOf corners .east .0) (cornerOf (locationCell c) .lon .0)
-  lon-between = reference-lon over c (p .cell) (p .within)
+  between : ReferenceIn (extremesOf corners) reference
+  between = reference-in over c (p .cell) (p .within)
+
+  abbrev level : ℕ
+  level = levelOf (extremesOf corners) number reference
+
+  fits : Fits level (fieldsAt level (extremesOf corners) number reference)
+  fits = one-step between (omega (arith, p .ground .lat, p .ground .lon)) number
+
+  is-level : IsLevel level
+  is-level = record { coarsest = omega (arith, fits .least); finest = fits .most }
 
   -- The fields of the cell are good
   pub fields-good : Good (unitFields corners number c)
-  unfolding fieldsOf
+  unfolding fieldsOf fieldsAt
   fields-good =
-      let f : Fields = unitFields corners number c in
-      let least = fields-least over c (p .cell) (p .within) number in
-      let ew-sn = neither (ltb 31 (f .east) || ltb 31 (f .west)) (ltb 31 (f .south) || ltb 31 (f .north)) (p .spans) in
-      let ew = neither (ltb 31 (f .east)) (ltb 31 (f .west)) (ew-sn .0) in
-      let sn = neither (ltb 31 (f .south)) (ltb 31 (f .north)) (ew-sn .1) in
+      let least = spans-least between level is-level number in
+      let most = fits .spans in
       record {
-        lat = record { whole = lat-between .whole; below = omega (arith, lat-between .high, over .north-end) };
-        lon = record { whole = lon-between .whole; below = omega (arith, lon-between .high, over .east-end) };
-        scale = scale-written (spanOf (extremesOf corners)) (omega (arith, p .ground .lat, p .ground .lon));
-        east = (least .east, ltb-false 31 (f .east) (ew .0));
-        north = (least .north, ltb-false 31 (f .north) (sn .1));
-        west = (least .west, ltb-false 31 (f .west) (ew .1));
-        south = (least .south, ltb-false 31 (f .south) (sn .0));
+        lat = record { whole = between .lat .whole; below = omega (arith, between .lat .high, over .north-end) };
+        lon = record { whole = between .lon .whole; below = omega (arith, between .lon .high, over .east-end) };
+        scale = (fits .least, fits .most);
+        east = (least .east, most .east);
+        north = (least .north, most .north);
+        west = (least .west, most .west);
+        south = (least .south, most .south);
         number = p .most;
       }
 
   -- Their rectangle's sides lie at or beyond the unit's own extremes, by less than the scale's size
   pub fields-cover : Covers (extremesOf corners) (rectangleOf (unitFields corners number c)) (sizeOf (unitFields corners number c .scale))
-  unfolding rectangleOf fieldsOf
+  unfolding rectangleOf fieldsOf fieldsAt
   fields-cover =
-      let span : ℕ = spanOf (extremesOf corners) in
-      let some : 0 < sizeOf (scaleOf span) = omega (arith, scale-size span) in
+      let some : 0 < sizeOf level = omega (arith, size-least level is-level) in
       record {
-        lon = enclosed (sizeOf (scaleOf span)) lonEnd some lon-between (over .east-end);
-        lat = enclosed (sizeOf (scaleOf span)) latEnd some lat-between (over .north-end);
+        lon = enclosed (sizeOf level) lonEnd some (between .lon) (over .east-end);
+        lat = enclosed (sizeOf level) latEnd some (between .lat) (over .north-end);
       }
 
   -- Every corner lies within that rectangle
@@ -159,12 +163,12 @@ chosen-inside {corners} g {c} chosen =
     let is = choose-chosen (over-range corners (g .range)) chosen in
     (is .cell, true-of (inside (edgesOf corners) c) (is .within))
 
--- and with checks 1 to 6 it passes, where its spans do
+-- and with checks 1 to 6 it passes
 pub passing : {room : ℕ} {numbers : List ℕ} {number : ℕ} → Entered room numbers number → {c : Cell} → chosenCell (cornersOf numbers) ≡ At c
-    → above31 (unitFields (cornersOf numbers) number c) ≡ false → Passing (cornersOf numbers) number c
-passing h chosen spans =
+    → Passing (cornersOf numbers) number c
+passing h chosen =
     let is = chosen-inside (h .ground) chosen in
-    record { ground = h .ground; most = h .most; cell = is .0; within = is .1; spans = spans }
+    record { ground = h .ground; most = h .most; cell = is .0; within = is .1 }
 
 module _ (room numbers : List ℕ) (kind : Kind) (number : ℕ) where
   -- Coding that accepts codes its unit
@@ -175,8 +179,8 @@ module _ (room numbers : List ℕ) (kind : Kind) (number : ℕ) where
       let r : Rectangle = extremesOf corners in
       let all = all-accept (length room) numbers kind number (ap (λ (s : Said). s .number) e) in
       let h = entered (length room) numbers kind number (all .0) in
-      let last = celled r number (chosenCell corners) (all .1) in
-      let p = passing h (last .chosen) (last .spans) in
+      let last = celled (chosenCell corners) (all .1) in
+      let p = passing h (last .chosen) in
       record {
         cell = last .cell;
         chosen = last .chosen;

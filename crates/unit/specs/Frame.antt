@@ -34,7 +34,6 @@ says coded.Extent = refused 5 0
 says (coded.Crossed corner) = refused 31 corner
 says coded.Number = refused 6 0
 says coded.NoCell = refused 7 0
-says coded.Span = refused 8 0
 
 -- What coding leaves, from its answer and the room
 abbrev pub leaves : Coded → List ℕ → Outcome
@@ -61,11 +60,11 @@ pub record Searched (numbers : List ℕ) (r : Rectangle) : Type 0 where
   pub most : length numbers / 2 ≤ 1024
   pub over : Over r (boundaryOf numbers)
 
--- What writing from a cell's fields comes to: acceptance, or 8, since a chosen cell's fields can fail by a span alone
+-- What writing from a cell's fields comes to: acceptance, or 7. A cell that is inside has fields that can be written
 abbrev pub ending : Outcome → Outcome
-ending o = record { said = cond (eqb (o .said .number) 0) accepted (refused 8 0); room = o .room }
+ending o = record { said = cond (eqb (o .said .number) 0) accepted (says coded.NoCell); room = o .room }
 
--- The end of coding around what a search hands in: 7 where it is no cell, else writing from its fields
+-- The end of coding around what a search hands in: writing from a cell's fields, and 7 where it is no cell or they cannot be written
 unfoldable pub finishing : List ℕ → Rectangle → ℕ → Choice → Outcome
 finishing room r number Nowhere = leaves coded.NoCell room
 finishing room r number (At c) = cond (isCell c) (ending (writing room (fieldsOf r number c))) (leaves coded.NoCell room)

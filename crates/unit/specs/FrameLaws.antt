@@ -4,14 +4,13 @@ use Prim.Native.Nat.{ℕ, _-_, _*_, _≤_}
 use native.Mathlib.Nat.{sub-zero}
 use native.Mathlib.Omega.{arith}
 use mathlib.Core.Path.{_≡_, refl, ap, ap₂, sym, subst, _∙_}
-use mathlib.Core.Bool.{Bool, true, false, cond, true≢false}
-use mathlib.Core.List.{List, [], _∷_, _++_}
+use mathlib.Core.Bool.{Bool, true, false, cond}
+use mathlib.Core.List.{List, _++_}
 use mathlib.Core.Logic.{_⊎_, inl, inr}
 use lib.Dec.{eqb}
 use lib.ListN.{length, take, replicate, length-replicate, drop, length-drop, length-append}
-use borrow.Author.Tests.{eq-eqb, ne-eqb, le-ltb, eqb-true, eqb-false}
-use Rattle.replies.specs.Replies.{Said, Check, check, run, Outcome, outcome}
-use Rattle.facts.specs.Tests.{none-of}
+use borrow.Author.Tests.{eq-eqb, ne-eqb, eqb-true, eqb-false}
+use Rattle.replies.specs.Replies.{Said, Check, run, Outcome, outcome}
 use Rattle.ground.specs.declared.Rectangle.{Rectangle}
 use Rattle.ground.specs.declared.Cell.{Cell}
 use Rattle.ground.specs.Cells.{isCell}
@@ -20,7 +19,7 @@ use Rattle.code.specs.declared.Fields.{Fields}
 use Rattle.code.specs.declared.Written.{Written}
 use Rattle.code.specs.Code as code
 use Rattle.code.specs.Code.{writing, codeOf}
-use Rattle.code.specs.WritingLaws.{code-twenty, Good, good-writing, zero-writing, refused-writing}
+use Rattle.code.specs.WritingLaws.{code-twenty, good-writing}
 use Rattle.corners.specs.Corners.{cornersOf}
 use Rattle.boundary.specs.Listed.{edgesIn, boundaryOf, listedCount, listedEdges}
 use Rattle.boundary.specs.ListedLaws.{have-room, listed-fits, listed-boundary}
@@ -34,18 +33,18 @@ use Rattle.chosen.specs.declared.Choice.{Choice}
 use Rattle.chosen.specs.declared.Choice.the-variants.{At, Nowhere}
 use Rattle.unit.specs.Extents.{extremesOf}
 use Rattle.unit.specs.ExtentsLaws.{over-range}
-use Rattle.unit.specs.Unit.{fieldsOf, above31, cellChecks, codeAt, chosenCell, codeChecks, coding}
+use Rattle.unit.specs.Unit.{fieldsOf, cellCheck, codeAt, chosenCell, codeChecks, coding}
 use Rattle.unit.specs.CheckLaws.{Entered, entered, first-refuses, first-accepts}
 use Rattle.unit.specs.Cover.{fields-good, chosen-inside, passing}
 use Rattle.unit.specs.Frame.{says, leaves, ending, firstChecks, tells, admitting, finishing, Searched}
 
--- Writing that accepts ends in acceptance, and else in 8; the room is as writing left it
+-- Writing that accepts ends in acceptance, and else in 7; the room is as writing left it
 pub ends : (o : Outcome) (answer : Written) (room : List ℕ) → code.leaves answer room ≡ o → code.says answer .number ≡ 0
     → leaves coded.Accepted room ≡ ending o
 ends o answer room e k = rw (sym e, eq-eqb (code.says answer .number) 0 k)
 
 pub ends-not : (o : Outcome) (answer : Written) (room : List ℕ) → code.leaves answer room ≡ o → (code.says answer .number ≡ 0 → ⊥)
-    → leaves coded.Span room ≡ ending o
+    → leaves coded.NoCell room ≡ ending o
 ends-not o answer room e k = rw (sym e, ne-eqb (code.says answer .number) 0 k)
 
 -- The end around a cell is writing from its fields, and around what is no cell 7
@@ -76,25 +75,6 @@ coding-fits room numbers kind number h =
     at true (At c) =
         let f : Fields = fieldsOf (extremesOf (cornersOf numbers)) number c in
         omega (arith, length-append (codeOf f) (drop 20 room), length-drop 20 room, code-twenty f)
-
--- Good fields have no span above 31
-good-spans : (f : Fields) → Good f → above31 f ≡ false
-good-spans f g =
-    none-of (none-of (le-ltb 31 (f .east) (g .east .1)) (le-ltb 31 (f .west) (g .west .1)))
-    (none-of (le-ltb 31 (f .south) (g .south .1)) (le-ltb 31 (f .north) (g .north .1)))
-
--- What the end of coding is for fields that a span above 31 alone can spoil
-spans-end : (room : List ℕ) (f : Fields) → 20 ≤ length room → (above31 f ≡ false → Good f)
-    → outcome (run (check 8 (above31 f) ∷ [])) (codeOf f) room ≡ ending (writing room f)
-spans-end room f long so = at (above31 f) refl
-  where
-    at : (b : Bool) → above31 f ≡ b → outcome (run (check 8 b ∷ [])) (codeOf f) room ≡ ending (writing room f)
-    at false e = ap ending (sym (good-writing room f long (so e)))
-    at true e =
-        let wrong : writing room f .said .number ≡ 0 → ⊥ =
-        λ k. true≢false (sym e ∙ good-spans f (zero-writing room f k .1)) in
-        let not-0 = ne-eqb (writing room f .said .number) 0 wrong in
-        rw (not-0, refused-writing room f not-0)
 
 -- The rooms that a road lends: for the edges of 1,024 corners, and for the places where they start
 abbrev pub edgeRoom : List ℕ
@@ -179,11 +159,11 @@ module _ (room numbers : List ℕ) (kind : Kind) (number : ℕ) where
       ∙ at choice refl (entered (length room) numbers kind number e)
     where
       at : (choice : Choice) → chosenCell (cornersOf numbers) ≡ choice → Entered (length room) numbers number
-          → outcome (run (cellChecks (extremesOf (cornersOf numbers)) number choice)) (codeAt (extremesOf (cornersOf numbers)) number choice) room
+          → outcome (run (cellCheck choice)) (codeAt (extremesOf (cornersOf numbers)) number choice) room
           ≡ finishing room (extremesOf (cornersOf numbers)) number choice
       at (At c) chosen h =
           let r : Rectangle = extremesOf (cornersOf numbers) in
-          spans-end room (fieldsOf r number c) (h .long) (λ spans. fields-good (passing h chosen spans))
+          ap ending (sym (good-writing room (fieldsOf r number c) (h .long) (fields-good (passing h chosen))))
           ∙ finish-cell room r number c (is-cell c (chosen-inside (h .ground) chosen .0))
       at Nowhere chosen h = finish-nowhere room (extremesOf (cornersOf numbers)) number
 

@@ -3,6 +3,7 @@ pub mod Unit
 pub mod ExtentsLaws
 pub mod ScaleLaws
 pub mod SpansLaws
+pub mod TailsLaws
 pub mod SameGround
 pub mod Widening
 pub mod Frame

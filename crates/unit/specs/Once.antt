@@ -16,7 +16,7 @@ abbrev codedBy : Said → Coded
 codedBy s =
     sought (λ a. says a .number) (s .number) coded.Accepted
     (coded.Output ∷ coded.Pairs ∷ coded.Corners ∷ coded.Range (s .place) ∷ coded.Extent ∷ coded.Crossed (s .place)
-    ∷ coded.Number ∷ coded.NoCell ∷ coded.Span ∷ [])
+    ∷ coded.Number ∷ coded.NoCell ∷ [])
 
 coded-back : (a : Coded) → codedBy (says a) ≡ a
 coded-back coded.Accepted = refl
@@ -28,7 +28,6 @@ coded-back coded.Extent = refl
 coded-back (coded.Crossed corner) = refl
 coded-back coded.Number = refl
 coded-back coded.NoCell = refl
-coded-back coded.Span = refl
 
 -- Two answers that say the same are the same
 pub says-once : (s : Said) (a b : Coded) → says a ≡ s → says b ≡ s → a ≡ b

@@ -30,7 +30,7 @@ use Rattle.unit.specs.Extents.{leastFrom, greatestFrom, least, greatest,
 use Rattle.chosen.specs.Chosen.{Chosen, choose}
 use Rattle.chosen.specs.ChosenLaws.{choose-same}
 use Rattle.facts.specs.Numbers.{max-above}
-use Rattle.unit.specs.Unit.{aboveRange, aboveDegree, badNumber, noCell, spanAbove, codeAt, chosenCell, cornerChecks, codeChecks, coding}
+use Rattle.unit.specs.Unit.{aboveRange, aboveDegree, badNumber, noCell, codeAt, chosenCell, cornerChecks, codeChecks, coding}
 
 -- The least or the greatest of a number and the angles of some corners, by an operation and in a direction
 abbrev over : (ℕ → ℕ → ℕ) → (Point → ℕ) → ℕ → List Point → ℕ
@@ -218,19 +218,19 @@ unfolding cornerChecks
 number-same {cs} {ds} g kind number =
     told cs ∙ (λ i. table (extremes-same g i) (crossed-same g i) (chosen-cell-same g i)) ∙ sym (told ds)
   where
-    rows : Rectangle → Choice → List Check
-    rows r c = check 6 (badNumber kind number) ∷ check 7 (noCell c) ∷ check 8 (spanAbove r number c) ∷ []
+    rows : Choice → List Check
+    rows c = check 6 (badNumber kind number) ∷ check 7 (noCell c) ∷ []
 
     -- the number alone: the places of 4 and 31 may differ
     table : Rectangle → Bool → Choice → ℕ
     table r crosses c =
         cond (ltb latEnd (r .north .0) || ltb lonEnd (r .east .0)) 4
-        (cond (aboveDegree r) 5 (cond crosses 31 (run (rows r c) .number)))
+        (cond (aboveDegree r) 5 (cond crosses 31 (run (rows c) .number)))
 
     told : (cs : List Point) → run (cornerChecks cs kind number) .number ≡ table (extremesOf cs) (crossed cs) (chosenCell cs)
     told cs =
         let r : Rectangle = extremesOf cs in
-        let last : List Check = rows r (chosenCell cs) in
+        let last : List Check = rows (chosenCell cs) in
         let crossing : List Check = check-at 31 (crossed cs) (startOf (pairOf cs)) ∷ last in
         first-number (ltb (firstPlace aboveRange cs) (length cs)) 4 (firstPlace aboveRange cs) (check 5 (aboveDegree r) ∷ crossing)
         ∙ ap₂ (λ (b : Bool) (n : ℕ). cond b 4 n) (above-is cs)

@@ -1,16 +1,16 @@
 -- The laws of the scale (document 01, "Scale"), each for the level as a parameter: it is a level, and the finest one whose nominal size
--- times 32 is greater than the span. Assumes nothing.
+-- times 32 is greater than the span; one level coarser, 18 sizes reach as far. Assumes nothing.
 use Prim.Native.Nat.{ℕ, zero, suc, _+_, _-_, _*_, _≤_, _<_}
 use native.Mathlib.Omega.{arith}
-use mathlib.Core.Path.{_≡_, refl, subst}
+use mathlib.Core.Path.{_≡_, refl, sym, subst}
 use mathlib.Core.Logic.{_⊎_, inl, inr}
 use mathlib.Core.Bool.{Bool, true, false, cond}
 use lib.Dec.{ltb}
 use borrow.Author.Tests.{ltb-true, ltb-false}
-use Rattle.ground.specs.Levels.{degree, coarsestLevel, finestLevel, IsLevel, smallestSize, sizeOf}
-use Rattle.ground.specs.LevelsLaws.{size-least}
+use Rattle.ground.specs.Levels.{degree, coarsestLevel, finestLevel, IsLevel, sizeOf}
+use Rattle.ground.specs.LevelsLaws.{size-step}
 use Rattle.facts.specs.Numbers.{either-way}
-use Rattle.unit.specs.Unit.{scaleFrom, scaleOf}
+use Rattle.unit.specs.Unit.{scaleFrom, scaleOf, coarser}
 
 module _ (span : ℕ) where
   -- A scale from so many levels after the coarsest is one of them
@@ -55,14 +55,14 @@ module _ (span : ℕ) where
       let from = scale-from (finestLevel - coarsestLevel) in
       record { coarsest = from .0; finest = from .1 }
 
-  -- Its size is at least 32
-  pub scale-size : smallestSize ≤ sizeOf (scaleOf span)
-  scale-size = size-least (scaleOf span) scale-level
-
   -- The nominal size of a finer level, times 32, is at most the span
   pub finer-most : (l : ℕ) → scaleOf span < l → l ≤ finestLevel → sizeOf l * 32 ≤ span
   unfolding scaleOf
   finer-most = scale-finest (finestLevel - coarsestLevel)
+
+-- One level coarser is a level
+pub coarser-level : {level : ℕ} → IsLevel level → IsLevel (coarser level)
+coarser-level l = record { coarsest = omega arith; finest = omega (arith, l .coarsest, l .finest) }
 
 module _ (span : ℕ) (small : span ≤ degree) where
   -- The nominal size of the scale of a span of at most a degree, times 32, is greater than the span
@@ -78,3 +78,19 @@ module _ (span : ℕ) (small : span ≤ degree) where
       at : (14 ≤ scaleOf span) ⊎ (scaleOf span < 14) → (14 ≤ scaleOf span) × (scaleOf span ≤ finestLevel)
       at (inl h) = (h, scale-level span .finest)
       at (inr h) = let none : ⊥ = omega (arith, finer-most span 14 h (omega arith)) in absurd none
+
+  -- At 14, 30 sizes reach a span of at most a degree
+  pub reach-14 : scaleOf span ≡ 14 → span ≤ 30 * sizeOf (scaleOf span)
+  unfolding sizeOf
+  reach-14 e = subst (λ (level : ℕ). span ≤ 30 * sizeOf level) (sym e) small
+
+  -- and at a finer scale, 18 sizes of one level coarser do
+  pub reach-coarser : 14 < scaleOf span → span ≤ 18 * sizeOf (coarser (scaleOf span))
+  reach-coarser h =
+      let level : ℕ = scaleOf span - 1 in
+      let next : suc level ≡ scaleOf span = omega arith in
+      let same : level ≡ coarser (scaleOf span) = omega arith in
+      let step = size-step level (omega arith) (omega (arith, scale-level span .finest)) in
+      let wider : sizeOf (scaleOf span) * 15 ≤ sizeOf (coarser (scaleOf span)) * 8 =
+      subst (λ (l : ℕ). sizeOf l * 15 ≤ sizeOf (coarser (scaleOf span)) * 8) next (subst (λ (l : ℕ). sizeOf (suc level) * 15 ≤ sizeOf l * 8) same step) in
+      omega (arith, span-below, wider)

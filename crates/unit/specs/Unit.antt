@@ -1,6 +1,6 @@
--- Coding a unit (document 01, "The twenty characters" and "Replies"; document 02, request 1): scale, spans, checks 1 to 8 and 31, and
--- coding as one function from room, numbers, kind and unit number to reply and room. Assumes nothing.
-use Prim.Native.Nat.{ℕ, zero, suc, _+_, _-_, _*_, _/_, _%_}
+-- Coding a unit (document 01, "The twenty characters" and "Replies"; document 02, requests 1 and 2): scale, spans, checks 1 to 7 and 31,
+-- and coding as one function from room, numbers, kind and unit number to reply and room. Assumes nothing.
+use Prim.Native.Nat.{ℕ, zero, suc, _+_, _-_, _*_, _/_, _%_, max}
 use Prim.Native.Char.{code}
 use mathlib.Core.Bool.{Bool, true, false, cond, not, _||_}
 use mathlib.Core.List.{List, [], _∷_, _++_}
@@ -41,20 +41,39 @@ scaleOf span = scaleFrom span (finestLevel - coarsestLevel)
 abbrev pub spanCells : ℕ → ℕ → ℕ
 spanCells s d = (d + (s - 1)) / s + 1
 
--- Four spans, order E, W, S, N, from the south-west corner of the location cell as reference; and the unit number
-unfoldable pub fieldsOf : Rectangle → ℕ → Cell → Fields
-fieldsOf r number c =
-    let p : Point = cornerOf (locationCell c) in
-    let level : ℕ = scaleOf (spanOf r) in
+-- Four spans, order E, W, S, N, with s the nominal size of a level and from a reference; and the unit number
+unfoldable pub fieldsAt : ℕ → Rectangle → ℕ → Point → Fields
+fieldsAt level r number p =
+    let s : ℕ = sizeOf level in
     record {
       reference = p;
       scale = level;
-      east = spanCells (sizeOf level) (distance (p .lon .0) (r .east .0));
-      west = spanCells (sizeOf level) (distance (p .lon .0) (r .west .0));
-      south = spanCells (sizeOf level) (distance (p .lat .0) (r .south .0));
-      north = spanCells (sizeOf level) (distance (p .lat .0) (r .north .0));
+      east = spanCells s (distance (p .lon .0) (r .east .0));
+      west = spanCells s (distance (p .lon .0) (r .west .0));
+      south = spanCells s (distance (p .lat .0) (r .south .0));
+      north = spanCells s (distance (p .lat .0) (r .north .0));
       number = number;
     }
+
+-- Long tails (document 02, request 2): any of the four is above 31
+abbrev pub above31 : Fields → Bool
+above31 f = (ltb 31 (f .east) || ltb 31 (f .west)) || (ltb 31 (f .south) || ltb 31 (f .north))
+
+-- One level coarser; there is none before the coarsest
+abbrev pub coarser : ℕ → ℕ
+coarser level = max coarsestLevel (level - 1)
+
+-- "If any of the four is above 31, L is made one level coarser"
+unfoldable pub levelOf : Rectangle → ℕ → Point → ℕ
+levelOf r number p =
+    let level : ℕ = scaleOf (spanOf r) in
+    cond (above31 (fieldsAt level r number p)) (coarser level) level
+
+-- "and all four are worked out afresh"; the south-west corner of the location cell is the reference
+unfoldable pub fieldsOf : Rectangle → ℕ → Cell → Fields
+fieldsOf r number c =
+    let p : Point = cornerOf (locationCell c) in
+    fieldsAt (levelOf r number p) r number p
 
 -- The code of a unit from its extremes, its number and its chosen cell
 abbrev pub codeAt : Rectangle → ℕ → Choice → List ℕ
@@ -114,22 +133,14 @@ abbrev pub noCell : Choice → Bool
 noCell (At c) = false
 noCell Nowhere = true
 
--- A span above 31
-abbrev pub above31 : Fields → Bool
-above31 f = (ltb 31 (f .east) || ltb 31 (f .west)) || (ltb 31 (f .south) || ltb 31 (f .north))
-
-abbrev pub spanAbove : Rectangle → ℕ → Choice → Bool
-spanAbove r number (At c) = above31 (fieldsOf r number c)
-spanAbove r number Nowhere = false
-
--- Checks 7 and 8, of the chosen cell
-abbrev pub cellChecks : Rectangle → ℕ → Choice → List Check
-cellChecks r number choice = check 7 (noCell choice) ∷ check 8 (spanAbove r number choice) ∷ []
+-- Check 7, of the chosen cell. There is no check 8 (document 02, request 2)
+abbrev pub cellCheck : Choice → List Check
+cellCheck choice = check 7 (noCell choice) ∷ []
 
 -- From 4 on: what the corners, the kind and the unit number tell
 unfoldable pub cornerChecks : List Point → Kind → ℕ → List Check
 cornerChecks corners kind number =
-    groundChecks corners ++ numberCheck kind number ++ cellChecks (extremesOf corners) number (chosenCell corners)
+    groundChecks corners ++ numberCheck kind number ++ cellCheck (chosenCell corners)
 
 -- Coding's checks in order; the output by its length
 abbrev pub codeChecks : ℕ → List ℕ → Kind → ℕ → List Check

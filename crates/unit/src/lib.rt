@@ -22,7 +22,7 @@ pub fn kind_of(letter: u8) -> Kind
     Kind::Other
 }
 
-// What coding answers: acceptance, or what is refused (1 to 8, and 31 between 5 and 6).
+// What coding answers: acceptance, or what is refused (1 to 7, and 31 between 5 and 6).
 pub enum Coded {
     Accepted,
     Output,
@@ -33,7 +33,6 @@ pub enum Coded {
     Crossed(u32),
     Number,
     NoCell,
-    Span,
 }
 
 // What the checks before a cell is looked for leave to a road: their refusal, or the extents over which it
@@ -57,7 +56,6 @@ pub fn coded_number(answer: Coded) -> u32
         Coded::Crossed(_) => 31,
         Coded::Number => 6,
         Coded::NoCell => 7,
-        Coded::Span => 8,
     }
 }
 
@@ -76,6 +74,5 @@ pub fn coded_place(answer: Coded) -> u32
         Coded::Crossed(corner) => corner,
         Coded::Number => 0,
         Coded::NoCell => 0,
-        Coded::Span => 0,
     }
 }
