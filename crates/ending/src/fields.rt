@@ -1,10 +1,12 @@
-// The fields of a unit: the reference of its cell, its scale and its spans.
+// The fields of a unit: the reference of its cell, its scale and its spans; where a span is above 31, all
+// four one level coarser.
 ghost use mathlib.Core.Path.{_≡_};
 ghost use Prim.Native.Nat.{_≤_};
 ghost use Rattle.angles.specs.Angles.{distance};
-ghost use Rattle.ground.specs.Levels.{smallestSize};
+ghost use Rattle.ground.specs.Levels.{smallestSize, IsLevel};
 ghost use Rattle.ground.specs.Cells.{sidesOf, locationCell, cornerOf};
-ghost use Rattle.unit.specs.Unit.{spanCells, fieldsOf};
+ghost use Rattle.unit.specs.Unit.{spanCells, fieldsAt, above31, fieldsOf};
+use crate::scale::coarser;
 use crate::scale::scale_of;
 use code::Fields;
 use ground::Cell;
@@ -44,13 +46,11 @@ fn reference(c: Cell, sides: Rectangle) -> Point
     }
 }
 
-// The fields of a unit by its extremes, its number and a cell with these sides.
-pub(crate) fn fields(r: Rectangle, number: u32, c: Cell, sides: Rectangle) -> Fields
-    requires { ⌜ sides ≡ sidesOf c ⌝ }
-    ensures { λ f. ⌜ f ≡ fieldsOf r number c ⌝ }
+// The fields of a unit at a level, by its extremes, its number and its reference.
+fn fields_at(level: u32, r: Rectangle, number: u32, p: Point) -> Fields
+    requires { ⌜ IsLevel level ⌝ }
+    ensures { λ f. ⌜ f ≡ fieldsAt level r number p ⌝ }
 {
-    let p = reference(c, sides);
-    let level = scale_of(extents::span(r));
     let s = ground::size(level);
     Fields {
         reference: p,
@@ -61,4 +61,34 @@ pub(crate) fn fields(r: Rectangle, number: u32, c: Cell, sides: Rectangle) -> Fi
         north: span_cells(s, p.lat.0, r.north.0),
         number,
     }
+}
+
+// Whether any of the four spans is above 31.
+fn above_31(f: Fields) -> bool
+    ensures { λ b. ⌜ b ≡ above31 f ⌝ }
+{
+    if 31 < f.east {
+        return true;
+    }
+    if 31 < f.west {
+        return true;
+    }
+    if 31 < f.south {
+        return true;
+    }
+    31 < f.north
+}
+
+// The fields of a unit by its extremes, its number and a cell with these sides.
+pub(crate) fn fields(r: Rectangle, number: u32, c: Cell, sides: Rectangle) -> Fields
+    requires { ⌜ sides ≡ sidesOf c ⌝ }
+    ensures { λ f. ⌜ f ≡ fieldsOf r number c ⌝ }
+{
+    let p = reference(c, sides);
+    let level = scale_of(extents::span(r));
+    let f = fields_at(level, r, number, p);
+    if above_31(f) {
+        return fields_at(coarser(level), r, number, p);
+    }
+    f
 }

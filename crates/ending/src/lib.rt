@@ -15,7 +15,7 @@ use ground::Rectangle;
 use ground::Sides;
 use unit::Coded;
 
-// Writes the code of fields; 8 where writing refuses them.
+// Writes the code of fields; 7 where writing refuses them, which it does not for a cell that is inside.
 fn end(room: &mut [u8], f: Fields) -> Coded
     ensures { λ a. ⌜ leaves a (now (room .exit)) ≡ ending (writing (now (room .entry)) f) ⌝ }
 {
@@ -23,7 +23,7 @@ fn end(room: &mut [u8], f: Fields) -> Coded
     if code::written_number(answer) == 0 {
         return Coded::Accepted;
     }
-    Coded::Span
+    Coded::NoCell
 }
 
 // The end of coding around a cell; 7 where it is no cell of levels 9 to 27 within the range.

@@ -1,6 +1,6 @@
-// The scale of a span.
+// The scale of a span, and one level coarser.
 ghost use mathlib.Core.Path.{_≡_};
-ghost use Rattle.unit.specs.Unit.{scaleOf};
+ghost use Rattle.unit.specs.Unit.{scaleOf, coarser as Unit·coarser};
 use ground::COARSEST;
 use ground::FINEST;
 
@@ -14,6 +14,16 @@ pub fn scale_of(span: u32) -> u32
             return level;
         }
         level -= 1;
+    }
+    COARSEST
+}
+
+// One level coarser; there is none before the coarsest.
+pub(crate) fn coarser(level: u32) -> u32
+    ensures { λ r. ⌜ r ≡ Unit·coarser level ⌝ }
+{
+    if COARSEST < level {
+        return level - 1;
     }
     COARSEST
 }

@@ -1,14 +1,13 @@
--- `ending::fields::fields` meets its contract: each field from its part. Assumes nothing.
-use Prim.Native.Nat.{_≤_}
-use Rattle.ground.specs.Levels.{smallestSize}
-use Rattle.ending.specs.FieldsLaws.{cells-size, fields-made}
+-- `ending::fields::fields` meets its contract: the fields at the level tried first, or all of them one level coarser. Assumes nothing.
+use Prim.Native.Nat.{ℕ}
+use mathlib.Core.Path.{_≡_, ap, sym, _∙_}
+use mathlib.Core.Bool.{Bool, cond}
+use Rattle.ground.specs.Levels.{IsLevel}
+use Rattle.unit.specs.Unit.{fieldsAt, coarser, fieldsOf}
+use Rattle.ending.specs.FieldsLaws.{first-level, next-level, fields-decided}
 use borrow.Author.Needs.{needs}
 use Rattle.ending.proofs.fields.fields.Statement.{statement}
 use Rattle.ending.proofs.fields.fields.Tie as tie
-
--- the scale's size
-size : (c : tie.After-size) → smallestSize ≤ c .size .result
-size c = cells-size (c .before .before .span .result) (c .before .scale-of .ensures) (c .size .ensures)
 
 reference-requires : tie.Need-reference-requires
 reference-requires c κs = search needs
@@ -19,31 +18,49 @@ span-requires c κs = search needs
 scale-of-requires : tie.Need-scale-of-requires
 scale-of-requires c κs = search needs
 
-size-requires : tie.Need-size-requires
-size-requires c κs = search needs
+-- the level tried first is one
+first : (c : tie.After-scale-of) → IsLevel (c .scale-of .result)
+first c = first-level (c .before .span .result) (c .scale-of .ensures)
 
-span-cells-requires : tie.Need-span-cells-requires
-span-cells-requires c κs = size c
+fields-at-requires : tie.Need-fields-at-requires
+fields-at-requires c κs = first c
 
-span-cells-requires-2 : tie.Need-span-cells-requires-2
-span-cells-requires-2 c κs = size (c .before)
+above-31-requires : tie.Need-above-31-requires
+above-31-requires c κs = search needs
 
-span-cells-requires-3 : tie.Need-span-cells-requires-3
-span-cells-requires-3 c κs = size (c .before .before)
+coarser-requires : tie.Need-coarser-requires
+coarser-requires c κs = search needs
 
-span-cells-requires-4 : tie.Need-span-cells-requires-4
-span-cells-requires-4 c κs = size (c .before .before .before)
+fields-at-requires-2 : tie.Need-fields-at-requires-2
+fields-at-requires-2 c κs = next-level (first (c .before .before .before .before)) (c .coarser .ensures)
+
+-- what the fields at the level tried first decide
+decided : (t : tie.After-above-31) {b : Bool} → t .above-31 .result ≡ b
+    → let try = t .before in
+    let scale = try .before in
+    let p = scale .before .before in
+    let a = p .before .args in
+    fieldsAt (cond b (coarser (scale .scale-of .result)) (scale .scale-of .result)) (a .r) (a .number) (p .reference .result)
+    ≡ fieldsOf (a .r) (a .number) (a .c)
+decided t e =
+    let try = t .before in
+    let scale = try .before in
+    let p = scale .before .before in
+    let a = p .before .args in
+    fields-decided (a .r) (a .number) (a .c) (p .reference .ensures) (scale .before .span .ensures) (scale .scale-of .ensures) (try .fields-at .ensures)
+    (sym (t .above-31 .ensures) ∙ e)
 
 returns : tie.Need-returns
 returns c =
-    let c3 = c .before in
-    let c2 = c3 .before in
-    let c1 = c2 .before in
-    let cs = c1 .before in
-    let p = cs .before .before .before in
+    let step = c .before in
+    let t = step .before .before in
+    let p = t .before .before .before .before in
     let a = p .before .args in
-    fields-made (a .r) (a .number) (a .c) (p .reference .ensures) (cs .before .before .span .ensures) (cs .before .scale-of .ensures)
-    (cs .size .ensures) (c1 .span-cells .ensures) (c2 .span-cells2 .ensures) (c3 .span-cells3 .ensures) (c .span-cells4 .ensures)
+    c .fields-at2 .ensures ∙ ap (λ (n : ℕ). fieldsAt n (a .r) (a .number) (p .reference .result)) (step .coarser .ensures)
+    ∙ decided t (step .before .if1 .taken)
+
+returns-2 : tie.Need-returns-2
+returns-2 c = c .before .before .fields-at .ensures ∙ decided (c .before) (c .if1 .left)
 
 pub fields-spec : {M : Type 1} → statement M
 fields-spec =
@@ -52,9 +69,9 @@ fields-spec =
     reference-requires
     span-requires
     scale-of-requires
-    size-requires
-    span-cells-requires
-    span-cells-requires-2
-    span-cells-requires-3
-    span-cells-requires-4
-    returns)
+    fields-at-requires
+    above-31-requires
+    coarser-requires
+    fields-at-requires-2
+    returns
+    returns-2)
