@@ -3,14 +3,14 @@
 use Prim.Native.Nat.{ℕ}
 use native.Mathlib.Omega.{arith}
 use mathlib.Core.Path.{_≡_, refl, ap, ap₂, sym, _∙_}
-use mathlib.Core.Bool.{Bool, true, false, cond, not, _&&_}
-use mathlib.Core.List.{List, [], _∷_}
+use mathlib.Core.Bool.{Bool, true, false}
+use mathlib.Core.List.{List}
 use lib.Dec.{T, eqb}
 use lib.ListN.{length, take, drop}
 use lib.Seq.{take-at}
-use borrow.Author.Tests.{eqb-true, eqb-false, not-true}
-use Rattle.facts.specs.Tests.{true-of, both-hold}
-use Rattle.replies.specs.Replies.{Said, refused, accepted, Check, check, run, outcome}
+use borrow.Author.Tests.{eqb-true, eqb-false}
+use Rattle.replies.specs.Replies.{Said, refused, accepted, Check, run, outcome}
+use Rattle.replies.specs.RepliesLaws.{never-says}
 use Rattle.ground.specs.declared.Rectangle.{Rectangle}
 use Rattle.ground.specs.declared.Cell.{Cell}
 use Rattle.ground.specs.Cells.{IsCell}
@@ -27,7 +27,7 @@ use Rattle.chosen.specs.ChosenLaws.{choose-chosen, choose-none, none-choose}
 use Rattle.unit.specs.declared.Kind.{Kind}
 use Rattle.unit.specs.Extents.{extremesOf}
 use Rattle.unit.specs.ExtentsLaws.{over-range}
-use Rattle.unit.specs.Unit.{fieldsOf, codeAt, chosenCell, above31, cellChecks, coding}
+use Rattle.unit.specs.Unit.{fieldsOf, codeAt, chosenCell, cellCheck, coding}
 use Rattle.unit.specs.Frame.{firstChecks}
 use Rattle.unit.specs.CheckLaws.{entered, first-refuses, first-accepts}
 use Rattle.unit.specs.Cover as cover
@@ -53,31 +53,10 @@ pub record AsDemanded (room numbers : List ℕ) (kind : Kind) (number : ℕ) : T
   pub refuses : coding room numbers kind number .said .number ≡ 7 → Checked room numbers kind number × NoneInside numbers
   pub only : Checked room numbers kind number → NoneInside numbers → coding room numbers kind number .said ≡ refused 7 0
 
--- No row of a table has number 7
-abbrev without7 : List Check → Bool
-without7 [] = true
-without7 (c ∷ cs) = not (eqb (c .number) 7) && without7 cs
-
--- so it says another number
-says-other : (cs : List Check) → T (without7 cs) → run cs .number ≡ 7 → ⊥
-says-other [] t e = omega arith
-says-other (c ∷ cs) t e =
-    let seven : Bool = eqb (c .number) 7 in
-    let ts = both-hold (not seven) (without7 cs) t in
-    at (c .refuses) (eqb-false (c .number) 7 (not-true seven (true-of (not seven) (ts .0)))) (says-other cs (ts .1)) e
-  where
-    at : (b : Bool) → (c .number ≡ 7 → ⊥) → (run cs .number ≡ 7 → ⊥) → cond b (refused (c .number) (c .place)) (run cs) .number ≡ 7 → ⊥
-    at true h later = h
-    at false h later = later
-
--- Checks 7 and 8 say 7 where there is no cell alone
-seven-nowhere : (r : Rectangle) (number : ℕ) (choice : Choice) → run (cellChecks r number choice) .number ≡ 7 → choice ≡ Nowhere
-seven-nowhere r number (At c) e = at (above31 (fieldsOf r number c)) e
-  where
-    at : (b : Bool) → run (check 8 b ∷ []) .number ≡ 7 → At c ≡ Nowhere
-    at true k = let none : ⊥ = omega arith in absurd none
-    at false k = let none : ⊥ = omega arith in absurd none
-seven-nowhere r number Nowhere e = refl
+-- Check 7 says 7 where there is no cell alone
+seven-nowhere : (choice : Choice) → run (cellCheck choice) .number ≡ 7 → choice ≡ Nowhere
+seven-nowhere (At c) e = let none : ⊥ = omega arith in absurd none
+seven-nowhere Nowhere e = refl
 
 module _ (room numbers : List ℕ) (kind : Kind) (number : ℕ) where
   abbrev choice : Choice
@@ -96,7 +75,7 @@ module _ (room numbers : List ℕ) (kind : Kind) (number : ℕ) where
       ∙ ap (codeAt r number) (sym (c .chosen))
 
   -- A search takes for granted what it may, where those checks pass
-  over : Checked room numbers kind number → Over (extremesOf (cornersOf numbers)) (boundaryOf numbers)
+  pub over : Checked room numbers kind number → Over (extremesOf (cornersOf numbers)) (boundaryOf numbers)
   over e = over-range (cornersOf numbers) (entered (length room) numbers kind number e .ground .range)
 
   accepts : coding room numbers kind number .said ≡ accepted → CodeOfChosen numbers number (coding room numbers kind number .room)
@@ -114,7 +93,7 @@ module _ (room numbers : List ℕ) (kind : Kind) (number : ℕ) where
   -- They say another number than 7
   firsts-other : run firsts .number ≡ 7 → ⊥
   unfolding firstChecks
-  firsts-other = says-other firsts tt
+  firsts-other = never-says 7 (omega arith) firsts tt
 
   refuses : coding room numbers kind number .said .number ≡ 7 → Checked room numbers kind number × NoneInside numbers
   unfolding coding
@@ -124,7 +103,7 @@ module _ (room numbers : List ℕ) (kind : Kind) (number : ℕ) where
       at true k =
           let pass = eqb-true (run firsts .number) 0 k in
           let last = ap (λ (s : Said). s .number) (first-accepts (length room) numbers kind number pass) in
-          let none = seven-nowhere (extremesOf (cornersOf numbers)) number choice (sym last ∙ e) in
+          let none = seven-nowhere choice (sym last ∙ e) in
           (pass, choose-none (over pass) none)
       at false k =
           let first = ap (λ (s : Said). s .number) (first-refuses (length room) numbers kind number (eqb-false (run firsts .number) 0 k)) in
@@ -134,7 +113,7 @@ module _ (room numbers : List ℕ) (kind : Kind) (number : ℕ) where
   unfolding coding
   only pass none =
       first-accepts (length room) numbers kind number pass
-      ∙ ap (λ (c : Choice). run (cellChecks (extremesOf (cornersOf numbers)) number c)) (none-choose (over pass) none)
+      ∙ ap (λ (c : Choice). run (cellCheck c)) (none-choose (over pass) none)
 
   -- Demand 2 holds of coding
   pub as-demanded : AsDemanded room numbers kind number

@@ -32,7 +32,6 @@ zero-accepts coded.Extent e = absurd (omega arith)
 zero-accepts (coded.Crossed corner) e = absurd (omega arith)
 zero-accepts coded.Number e = absurd (omega arith)
 zero-accepts coded.NoCell e = absurd (omega arith)
-zero-accepts coded.Span e = absurd (omega arith)
 
 module _ (kind : Kind) (number : ℕ) where
   -- The number of coding, where checks 1 to 3 pass, is told by the corners

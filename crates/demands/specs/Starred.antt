@@ -1,5 +1,5 @@
--- The starred cases of document 01 ("Tried on both sides", 1 to 10): one table, and one statement about the definitions that the checker
--- computes. Assumes nothing.
+-- The starred cases of document 01 ("Tried on both sides", 1 to 10; 5 as in document 02, request 2): one table, and one statement about
+-- the definitions that the checker computes. Assumes nothing.
 use Prim.Native.Nat.{ℕ, _+_, _*_, _/_, _%_}
 use Prim.Native.String.{String}
 use mathlib.Core.Bool.{Bool, true, false, _&&_}
@@ -30,7 +30,7 @@ use Rattle.chosen.specs.declared.Choice.the-variants.{At, Nowhere}
 use Rattle.corners.specs.Corners.{cornersOf}
 use Rattle.unit.specs.Extents.{extremesOf}
 use Rattle.chosen.specs.Chosen.{choose}
-use Rattle.unit.specs.Unit.{scaleOf, fieldsOf, chosenCell, cornerChecks, coding}
+use Rattle.unit.specs.Unit.{scaleOf, fieldsAt, levelOf, fieldsOf, chosenCell, cornerChecks, coding}
 
 -- What a case tries, and what comes out
 pub data Case : Type 0 where
@@ -65,7 +65,7 @@ starred =
     -- 4
     ∷ codes Other 0 (0 ∷ 0 ∷ 0 ∷ 960 ∷ 32 ∷ 960 ∷ 32 ∷ 0 ∷ []) "00000000001UY1120000"
     -- 5
-    ∷ refuses Other 0 (0 ∷ 0 ∷ 0 ∷ 961 ∷ 32 ∷ 961 ∷ 32 ∷ 0 ∷ []) 8
+    ∷ codes Other 0 (0 ∷ 0 ∷ 0 ∷ 961 ∷ 32 ∷ 961 ∷ 32 ∷ 0 ∷ []) "00000000001TH1120000"
     -- 6
     ∷ refuses Other 0 (0 ∷ 0 ∷ 0 ∷ 32 ∷ 32 ∷ 0 ∷ []) 7
     -- 7
@@ -194,6 +194,8 @@ unfolding sizeOf
     extremesOf
     choose
     scaleOf
+    fieldsAt
+    levelOf
     fieldsOf
     cornerChecks
     coding

@@ -1,6 +1,6 @@
 // The demands of the mission as statements, and document 01's starred cases. Definitions and laws are
-// in specs/: demand 2 in Coded.antt, demand 3 between the two roads in Ground.antt, the starred cases in
-// Starred.antt.
+// in specs/: demand 2 in Coded.antt, that long tails get a code (document 02, request 2) in Tails.antt,
+// demand 3 between the two roads in Ground.antt, the starred cases in Starred.antt.
 ghost use mathlib.Core.Path.{_≡_};
 ghost use Rattle.corners.specs.Corners.{cornersOf};
 ghost use Rattle.boundary.specs.Changes.{SameGround};

@@ -51,7 +51,7 @@ page-code : replyLine 1 (coded (bytes "00000000001UY1120000")) ≡ bytes "1 0000
 unfolding replyLine spelling
 page-code = refl
 
-page-refusal : replyLine 2 (refused 8 0) ≡ bytes "2 refused 8 0\n"
+page-refusal : replyLine 3 (refused 9 0) ≡ bytes "3 refused 9 0\n"
 unfolding replyLine spelling
 page-refusal = refl
 

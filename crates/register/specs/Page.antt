@@ -1,4 +1,5 @@
--- The page's own input and output (document 01, "The listing program"), by computation. Assumes nothing.
+-- The page's own input and output (document 01, "The listing program"; its second line as in document 02, request 2), by computation.
+-- Assumes nothing.
 use mathlib.Core.Path.{_≡_, refl}
 use Rattle.facts.specs.Texts.{bytes}
 use Rattle.ground.specs.Levels.{sizeOf}
@@ -15,13 +16,12 @@ use Rattle.code.specs.Code.{restOf, codeOf}
 use Rattle.corners.specs.Corners.{cornersOf}
 use Rattle.unit.specs.Extents.{extremesOf}
 use Rattle.chosen.specs.Chosen.{choose}
-use Rattle.unit.specs.Unit.{scaleOf, fieldsOf, cornerChecks, coding}
-use Rattle.unit.specs.Unit.{kindOf}
+use Rattle.unit.specs.Unit.{scaleOf, fieldsAt, levelOf, fieldsOf, cornerChecks, coding, kindOf}
 use Rattle.lines.specs.Lines.{cut, valueAfter, isNumber, form, linesOf, spelling, replyLine, lineSaid, replies, outputOf}
 use Rattle.register.specs.Said.{codeSaid, said}
 
 page : outputOf said (bytes "F 0 0 0 0 960 32 960 32 0\nF 0 0 0 0 961 32 961 32 0\n\nB 0 0 0 0 960 32 960 32 0\n")
-    ≡ bytes "1 00000000001UY1120000\n2 refused 8 0\n3 refused 9 0\n4 refused 6 0\n"
+    ≡ bytes "1 00000000001UY1120000\n2 00000000001TH1120000\n3 refused 9 0\n4 refused 6 0\n"
 unfolding sizeOf
     afresh
     lowSide
@@ -52,6 +52,8 @@ unfolding sizeOf
     extremesOf
     choose
     scaleOf
+    fieldsAt
+    levelOf
     fieldsOf
     cornerChecks
     coding
