@@ -344,8 +344,8 @@ fn no_cell() -> Lines {
     ])
 }
 
-/// Refusal 8 at its border in each of the four spans, and L 14, where the
-/// greatest is 31.
+/// The border of the step to a coarser level in each of the four spans, and L 14,
+/// where the greatest is 31.
 fn spans() -> Lines {
     let mut units = Vec::new();
     for far in [960, 961] {

@@ -227,11 +227,11 @@ fn borders_good() -> bool {
 fn roads_good() -> bool {
     let answers = answers(border_roads);
     let all: Vec<&str> = answers.lines().collect();
-    meet(&answers, "0 1 2 3 31 4 5 6 7 8") && all.chunks(2).all(|two| two[0] == two[two.len() - 1])
+    meet(&answers, "0 1 2 3 31 4 5 6 7") && all.chunks(2).all(|two| two[0] == two[two.len() - 1])
 }
 
-/// The fixed lines meet every number of the listing several times, and each
-/// reply has its line's number.
+/// The fixed lines meet every number of the listing several times, 8 never, and
+/// each reply has its line's number.
 fn listing_good() -> bool {
     let (mut lines, mut replies) = (Vec::new(), Vec::new());
     // Writing into a Vec does not fail.
@@ -242,7 +242,8 @@ fn listing_good() -> bool {
     let codes = replies.lines().filter(|reply| !reply.contains("refused")).count();
     numbered
         && codes > 100
-        && (2..=10).all(|number| refused(number) >= 5)
+        && (2..=10).all(|number| (refused(number) >= 5) == (number != 8))
+        && refused(8) == 0
         && refused(9) > 70
         && refused(31) > 50
 }
@@ -356,6 +357,6 @@ fn units_good() -> bool {
             Some(share) => requests(9, 2_000, &share, output),
             None => Ok(()),
         });
-        answered.lines().count() == 2_000 && meet(&answered, "0 7 8")
+        answered.lines().count() == 2_000 && meet(&answered, "0 7")
     })
 }
