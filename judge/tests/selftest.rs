@@ -178,7 +178,7 @@ pub fn coded(corners: &[Point], room: &mut [u8]) -> Result<(), code::Refusal> {
 /// of the code's own scale, also after a step to a coarser one.
 fn rectangles_good() -> bool {
     let mut random = Random::new(4);
-    (0..10_000).all(|round| {
+    (0..6_000).all(|round| {
         let small = round % 2 == 0;
         let corners = if small { shapes::simple(&mut random).0 } else { tail_unit(&mut random) };
         let mut room = [0; LENGTH];

@@ -43,6 +43,10 @@ impl Coded {
         self.fields.scale < self.level().into()
     }
 
+    fn spans(&self) -> [i64; 4] {
+        [self.fields.east, self.fields.west, self.fields.south, self.fields.north]
+    }
+
     /// How far the extremes lie from the reference, east, west, south and north.
     fn distances(&self) -> [i64; 4] {
         let (reference, extent) = (self.cell.reference(), &self.extent);
@@ -55,7 +59,7 @@ impl Coded {
     }
 
     /// The ways in which the extreme is more than 30 cells of L away, so that the
-    /// span would be above 31. No two are, as all is less than 32 of them long.
+    /// span would be above 31.
     fn beyond(&self) -> Vec<Way> {
         let far = 30 * size(self.level());
         let ways = [Way::East, Way::West, Way::South, Way::North].into_iter().zip(self.distances());
@@ -64,8 +68,7 @@ impl Coded {
 
     /// What the document and the rulings say of every code.
     fn good(&self) -> bool {
-        let f = &self.fields;
-        let spans = [f.east, f.west, f.south, f.north];
+        let (f, spans) = (&self.fields, self.spans());
         let level = i64::from(self.level());
         let coarser = !self.beyond().is_empty();
         let most = if coarser { 19 } else { 31 };
@@ -81,22 +84,30 @@ impl Coded {
     }
 }
 
-/// The fixed units have L and the step as by hand, the same by both roads; every L
-/// from 15 to 27 is at the border in each way.
+/// The fixed units have L and the step as by hand, the same by both roads. Every L
+/// from 15 to 27 is at the border in each way, 30 cells and 1 u more; at L 14 the
+/// greatest span is 31.
 pub fn fixed_good() -> bool {
-    let units = bordertails::tails();
-    let good = units.iter().all(|(coordinates, level, coarser)| {
+    let mut borders = BTreeSet::new();
+    let good = bordertails::tails().iter().all(|(coordinates, level, coarser)| {
         let corners: Vec<Point> =
             coordinates.chunks_exact(2).map(|c| Point { lat: c[0], lon: c[1] }).collect();
         let line = String::from_utf8_lossy(&line_of('F', 0, coordinates)).into_owned();
-        let (plain, quick) =
-            (answer(&format!("plain 20 {line}")), answer(&format!("quick 20 {line}")));
-        plain == quick
-            && Coded::of(&corners).is_some_and(|unit| {
-                unit.good() && unit.level() == *level && unit.coarser() == *coarser
-            })
+        let by = |road: &str| answer(&format!("{road} 20 {line}"));
+        let Some(unit) = Coded::of(&corners) else {
+            return false;
+        };
+        let past = unit.distances().map(|distance| distance - 30 * size(*level));
+        borders.extend((0..4).map(|way| (*level, way, past[way])));
+        let greatest = unit.spans().into_iter().max();
+        let as_by_hand = (unit.level(), unit.coarser()) == (*level, *coarser);
+        by("plain") == by("quick")
+            && unit.good()
+            && as_by_hand
+            && (*level > 14 || greatest == Some(31))
     });
-    good && units.iter().filter(|unit| unit.2).count() > 13 * 12
+    good && borders.iter().filter(|met| met.2 == 0 && met.0 > 14).count() == 13 * 4
+        && borders.iter().filter(|met| met.2 == 1).count() == 13 * 4
 }
 
 /// What the trials answer to a request.
@@ -112,9 +123,9 @@ fn answer(request: &str) -> String {
 pub fn spans_good() -> bool {
     let mut random = Random::new(15);
     let tailed: Vec<Option<Coded>> =
-        (0..10_000).map(|_| Coded::of(&tail_unit(&mut random))).collect();
-    let small = (0..3_000).filter_map(|_| Coded::of(&simple(&mut random).0));
-    tailed.iter().flatten().count() > 9_900
+        (0..5_000).map(|_| Coded::of(&tail_unit(&mut random))).collect();
+    let small = (0..2_000).filter_map(|_| Coded::of(&simple(&mut random).0));
+    tailed.iter().flatten().count() > 4_950
         && tailed.iter().flatten().all(Coded::good)
         && small.into_iter().all(|unit| unit.good())
 }
@@ -144,7 +155,8 @@ pub fn sorts_good() -> bool {
         && count("wide place at an end") == 13 * 4
         // At L 27 a tip at 0 is 31 cells away, and with the wide place 32 are too many.
         && count("tip at an end") == 13 * 4 - 2
-        && count("cut") >= 7 * 4 - 2
+        // A cut cell is at least 4 seconds wide, which at L 21 only leaves east and north.
+        && count("cut") == 6 * 4 + 2
 }
 
 fn opposite(way: Way) -> Way {
