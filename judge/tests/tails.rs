@@ -190,7 +190,8 @@ fn beside_cut(cell: &Cell) -> bool {
 }
 
 /// The requests for tails are answered with a code, rarely 7, and never 8; half are
-/// asked of each road, and about half of each road's take the step.
+/// asked of each road, about half of each road's take the step, and the quick road
+/// answers for the plain one too.
 pub fn share_good() -> bool {
     let Some(share) = kinds_of("tail-units") else {
         return false;
@@ -202,12 +203,15 @@ pub fn share_good() -> bool {
     let answers = String::from_utf8_lossy(&answers).into_owned();
     let accepted = answers.lines().filter(|answer| answer.starts_with("0 0 ")).count();
     let lines = String::from_utf8_lossy(&lines).into_owned();
+    let mut by_quick = Vec::new();
+    let _ = trials(lines.replace("plain", "quick").as_bytes(), &mut by_quick);
     let halves = ["plain", "quick"].iter().all(|road| {
         let asked: Vec<&str> = lines.lines().filter(|line| line.starts_with(road)).collect();
         let (units, coarser) = counted(&asked.join("\n"));
         (1_800..2_200).contains(&units) && (2 * units / 5..3 * units / 5).contains(&coarser)
     });
     halves
+        && answers.as_bytes() == by_quick
         && accepted > 3_960
         && answers.lines().all(|answer| answer.starts_with("0 0 ") || answer.starts_with("7 0 "))
 }
