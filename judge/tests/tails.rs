@@ -12,7 +12,7 @@ use crate::generators::tails::{tail_unit, Way};
 use crate::generators::units::line_of;
 use crate::program::boundary::Extent;
 use crate::program::code::{self, Fields, LENGTH};
-use crate::program::grid::{size, Cell, Point, DEGREE, LAT_END, LON_END, MINUTE};
+use crate::program::grid::{size, Cell, Point, Stretch, DEGREE, LAT_END, LON_END, MINUTE};
 use crate::program::quick;
 use crate::program::tails::tails;
 use crate::program::trials::trials;
@@ -143,8 +143,8 @@ pub fn sorts_good() -> bool {
                 sorts.extend(yes.then_some((sort, unit.level(), way)));
             };
             met("somewhere", true);
-            met("cut", is_cut(&unit.cell));
-            met("beside a cut", beside_cut(&unit.cell));
+            met("cut", within(&unit.cell) && is_cut(&unit.cell));
+            met("beside a cut", within(&unit.cell) && beside_cut(&unit.cell));
             met("tip at an end", at_end(&unit.extent, way));
             met("wide place at an end", at_end(&unit.extent, opposite(way)));
         }
@@ -176,6 +176,12 @@ fn at_end(extent: &Extent, way: Way) -> bool {
         Way::South => extent.south == 0,
         Way::North => extent.north == LAT_END,
     }
+}
+
+/// Whether the cell lies at no end of the ranges.
+fn within(cell: &Cell) -> bool {
+    let inside = |stretch: Stretch, end: i64| 0 < stretch.from && stretch.to < end;
+    inside(cell.lat, LAT_END) && inside(cell.lon, LON_END)
 }
 
 /// Whether the cell is smaller than its level's nominal size.
