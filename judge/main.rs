@@ -9,10 +9,10 @@ use std::io::{self, BufWriter, ErrorKind, Write};
 use std::process::ExitCode;
 
 use generators::{borderedges, borders, borderunits, changes, requests, units};
-use program::{lines, trials};
+use program::{lines, tails, trials};
 use tests::{cases, selftest};
 
-const USAGE: &str = "usage: judge listing | trials | requests SEED COUNT [KINDS] | \
+const USAGE: &str = "usage: judge listing | trials | tails | requests SEED COUNT [KINDS] | \
 borders [units | roads | edges] | agree SEED COUNT | units SEED COUNT | changes SEED COUNT | \
 cases | selftest";
 
@@ -45,6 +45,7 @@ fn run(words: &[&str]) -> io::Result<Option<bool>> {
     let good = match words {
         ["listing"] => lines::listing(input, output).map(|()| true),
         ["trials"] => trials::trials(input, output).map(|()| true),
+        ["tails"] => tails::tails(input, output).map(|()| true),
         ["borders"] => borders::borders(output).map(|()| true),
         ["borders", "units"] => borderunits::border_units(output).map(|()| true),
         ["borders", "roads"] => borderunits::border_roads(output).map(|()| true),

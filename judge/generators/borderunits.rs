@@ -6,6 +6,7 @@ use std::io::{self, Write};
 
 use super::bordercrossings::crossings;
 use super::borders::print_lines;
+use super::bordertails::tails;
 use super::units::{coordinates_of, line_of};
 use crate::program::grid::{Cell, Point, DEGREE, LAT_END, LON_END, MINUTE, SECOND};
 use crate::program::lines::LINE_MAX;
@@ -344,8 +345,8 @@ fn no_cell() -> Lines {
     ])
 }
 
-/// Refusal 8 at its border in each of the four spans, and L 14, where the
-/// greatest is 31.
+/// The border of the step to a coarser level in each of the four spans, and L 14,
+/// where the greatest is 31.
 fn spans() -> Lines {
     let mut units = Vec::new();
     for far in [960, 961] {
@@ -361,6 +362,7 @@ fn spans() -> Lines {
     units.push(rectangle(0, 0, DEGREE, 32));
     units.push(rectangle(0, 0, 64, 1_920));
     units.push(rectangle(0, 0, 64, 1_921));
+    units.extend(tails().into_iter().map(|(coordinates, _, _)| coordinates));
     others(&units)
 }
 

@@ -3,9 +3,10 @@
 
 use std::io::{self, Write};
 
-use super::crossing::small_crossed;
+use super::crossing::{small, small_crossed};
 use super::random::Random;
 use super::shapes;
+use super::tails::tail_unit;
 use super::units::{coordinates_of, good_number, line_of};
 use crate::program::grid::Point;
 
@@ -25,9 +26,14 @@ pub fn changes(seed: u64, count: u64, output: &mut impl Write) -> io::Result<()>
     output.flush()
 }
 
-/// A boundary, one in four crossed, and the same ground after some changes.
+/// A boundary, of four one crossed and one with a long tail, and the same ground
+/// after some changes.
 pub fn pair(random: &mut Random) -> (Vec<Point>, Vec<Point>) {
-    let mut first = if random.one_in(4) { small_crossed(random) } else { shapes::simple(random).0 };
+    let mut first = match random.below(4) {
+        0 => small_crossed(random),
+        1 => small(random, tail_unit),
+        _ => shapes::simple(random).0,
+    };
     // Sometimes the first is a changed one already, so that there is more to undo.
     if random.one_in(3) {
         change_often(random, &mut first);

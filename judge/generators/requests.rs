@@ -8,6 +8,7 @@ use super::crossing::{self, crossed_unit, missed_unit};
 use super::far::far;
 use super::random::Random;
 use super::shapes;
+use super::tails::tail_unit;
 use super::units;
 use crate::program::code::{bits_of, parts_of, spell, Fields, Parts, LENGTH, LETTERS, NUMBER_MAX};
 use crate::program::grid::{Point, DEGREE, LAT_END, LON_END, MINUTE, STEP};
@@ -23,7 +24,7 @@ type Numbered = fn(&mut Random) -> (char, i64);
 type Share = (u64, Maker);
 
 /// The kinds of requests with their shares.
-const KINDS: [(&str, u64, Maker); 11] = [
+const KINDS: [(&str, u64, Maker); 12] = [
     ("write", 25, write_request),
     ("read", 30, read_request),
     ("plain", 15, plain_request),
@@ -35,6 +36,7 @@ const KINDS: [(&str, u64, Maker); 11] = [
     ("odd", 10, odd_request),
     ("inside", 15, inside_request),
     ("bad", 15, bad_request),
+    ("tail-units", 5, tailed_unit),
 ];
 
 /// Small bad requests, each wrong in its own way.
@@ -346,6 +348,18 @@ fn crossing_unit(random: &mut Random) -> Vec<u8> {
     }
     let corners = maker(random);
     unit_request(random, "quick", &corners, number)
+}
+
+/// A unit with a long tail that passes checks 1 to 6 and 31; about half take the
+/// step to a coarser level, the others just miss it. Half are asked of each road, of
+/// the plain one only such as it ends on quickly.
+fn tailed_unit(random: &mut Random) -> Vec<u8> {
+    if random.one_in(2) {
+        let corners = crossing::small(random, tail_unit);
+        return unit_request(random, "plain", &corners, units::good_number);
+    }
+    let corners = tail_unit(random);
+    unit_request(random, "quick", &corners, units::good_number)
 }
 
 fn unit_request(random: &mut Random, road: &str, corners: &[Point], number: Numbered) -> Vec<u8> {

@@ -1,6 +1,6 @@
 //! The second program: document 01's grid, boundary, two searches, code, units
-//! and listing, document 02's crossed boundaries, and the answers to requests. It
-//! uses nothing of the generators and the tests.
+//! and listing, document 02's crossed boundaries and long tails, and the answers to
+//! requests. It uses nothing of the generators and the tests.
 
 pub mod boundary;
 pub mod code;
@@ -10,5 +10,6 @@ pub mod lines;
 pub mod plain;
 pub mod questions;
 pub mod quick;
+pub mod tails;
 pub mod trials;
 pub mod unit;

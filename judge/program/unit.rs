@@ -1,5 +1,6 @@
-//! Coding a unit from its corners: the checks 1 to 5, 31, and 6 to 8 in this order,
-//! scale, spans, and the code written into the room.
+//! Coding a unit from its corners: the checks 1 to 5, 31, 6 and 7 in this order,
+//! scale, spans, and the code written into the room. 8 is no refusal any more: by
+//! request 2 of document 02 a long tail makes the scale coarser.
 
 use super::boundary::Extent;
 use super::code::{parts_of, refused, spell, Fields, Refusal, LENGTH, NUMBER_MAX};
@@ -47,7 +48,7 @@ pub fn code(unit: &Unit, room: &mut [u8], road: Road) -> Result<(), Refusal> {
         Road::Quick => quick::chosen(&corners),
     };
     let cell = cell.ok_or(refused(7))?;
-    let fields = fields_of(&cell, &extent, unit.number)?;
+    let fields = fields_of(&cell, &extent, unit.number);
     room[..LENGTH].copy_from_slice(&spell(&parts_of(&fields)));
     Ok(())
 }
@@ -88,13 +89,24 @@ pub fn scale(span: i64) -> u8 {
     (COARSEST..=FINEST).rev().find(|&level| size(level) * 32 > span).unwrap_or(COARSEST)
 }
 
-/// The fields of a code for the chosen cell, or refusal 8.
-fn fields_of(cell: &Cell, extent: &Extent, number: u32) -> Result<Fields, Refusal> {
-    let reference = cell.reference();
+/// The fields of a code for the chosen cell: at L, or where one of the four spans
+/// would be above 31, at one level coarser with all four worked out afresh.
+fn fields_of(cell: &Cell, extent: &Extent, number: u32) -> Fields {
     let level = scale(extent.span());
+    let fields = fields_at(level, cell, extent, number);
+    let spans = [fields.east, fields.west, fields.south, fields.north];
+    if spans.iter().any(|&span| span > 31) {
+        return fields_at(level - 1, cell, extent, number);
+    }
+    fields
+}
+
+/// The fields with the spans counted in cells of a level, whatever comes out.
+fn fields_at(level: u8, cell: &Cell, extent: &Extent, number: u32) -> Fields {
+    let reference = cell.reference();
     let side = size(level);
     let span = |a: i64, b: i64| ((a - b).abs() + side - 1) / side + 1;
-    let fields = Fields {
+    Fields {
         lat: reference.lat,
         lon: reference.lon,
         scale: level.into(),
@@ -103,10 +115,5 @@ fn fields_of(cell: &Cell, extent: &Extent, number: u32) -> Result<Fields, Refusa
         south: span(extent.south, reference.lat),
         north: span(extent.north, reference.lat),
         number: number.into(),
-    };
-    let spans = [fields.east, fields.west, fields.south, fields.north];
-    if spans.iter().any(|&span| span > 31) {
-        return Err(refused(8));
     }
-    Ok(fields)
 }

@@ -1,4 +1,5 @@
-//! The document's cases 1 to 12 and its listing example, run in the judge.
+//! The document's cases 1 to 12 and its listing example, run in the judge; case 5
+//! as request 2 of document 02 has it.
 
 use std::io::{self, Write};
 
@@ -11,7 +12,7 @@ use crate::program::unit::{self, scale, Road};
 pub const LISTING_INPUT: &str =
     "F 0 0 0 0 960 32 960 32 0\nF 0 0 0 0 961 32 961 32 0\n\nB 0 0 0 0 960 32 960 32 0\n";
 const LISTING_OUTPUT: &str =
-    "1 00000000001UY1120000\n2 refused 8 0\n3 refused 9 0\n4 refused 6 0\n";
+    "1 00000000001UY1120000\n2 00000000001TH1120000\n3 refused 9 0\n4 refused 6 0\n";
 
 /// A case's number, what the judge says and what the document says.
 type Case = (u8, String, String);
@@ -73,7 +74,7 @@ fn coding_cases() -> Vec<Case> {
         case(1, format!("{place:?}"), "(294250496, 857567232)"),
         case(3, coded(&three), "000000XCYYYNEDDE0000"),
         case(4, coded("F 0 0 0 0 960 32 960 32 0"), "00000000001UY1120000"),
-        case(5, coded("F 0 0 0 0 961 32 961 32 0"), "refused 8"),
+        case(5, coded("F 0 0 0 0 961 32 961 32 0"), "00000000001TH1120000"),
         case(6, coded("F 0 0 0 0 32 32 0"), "refused 7"),
     ]
 }

@@ -3,3 +3,4 @@
 pub mod cases;
 mod crossings;
 pub mod selftest;
+mod tails;
