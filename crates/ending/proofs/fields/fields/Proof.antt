@@ -1,6 +1,5 @@
 -- `ending::fields::fields` meets its contract: the fields at the level tried first, or all of them one level coarser. Assumes nothing.
-use Prim.Native.Nat.{ℕ}
-use mathlib.Core.Path.{_≡_, ap, sym, _∙_}
+use mathlib.Core.Path.{_≡_, sym, _∙_}
 use mathlib.Core.Bool.{Bool, cond}
 use Rattle.ground.specs.Levels.{IsLevel}
 use Rattle.unit.specs.Unit.{fieldsAt, coarser, fieldsOf}
@@ -51,13 +50,10 @@ decided t e =
     (sym (t .above-31 .ensures) ∙ e)
 
 returns : tie.Need-returns
+unfolding fieldsAt
 returns c =
     let step = c .before in
-    let t = step .before .before in
-    let p = t .before .before .before .before in
-    let a = p .before .args in
-    c .fields-at2 .ensures ∙ ap (λ (n : ℕ). fieldsAt n (a .r) (a .number) (p .reference .result)) (step .coarser .ensures)
-    ∙ decided t (step .before .if1 .taken)
+    rw (c .fields-at2 .ensures, step .coarser .ensures) (decided (step .before .before) (step .before .if1 .taken))
 
 returns-2 : tie.Need-returns-2
 returns-2 c = c .before .before .fields-at .ensures ∙ decided (c .before) (c .if1 .left)
