@@ -1,4 +1,4 @@
-/* The library from C: document 01's case 1 by both roads, its code read and written again, and
+/* The library from C: document 01's case 1 by both roads, its code read and written again, case 5, and
  * refusals. It prints the lines of example.out, as example.py and example.rs do. */
 #include <stdio.h>
 #include <string.h>
@@ -10,6 +10,10 @@ static const uint32_t square[] = {
     294250496, 857567232, 294250496, 857569280, 294252544, 857569280, 294252544, 857567232,
 };
 #define NUMBERS (sizeof square / sizeof *square)
+
+/* Case 5, a strip with its chosen cell at one end: it reaches 31 steps from there at
+ * scale 27, so that its code has scale 26. */
+static const uint32_t strip[] = {0, 0, 0, 961, 32, 961, 32, 0};
 
 /* A triangle whose third corner lies beyond 180 degrees. */
 static const uint32_t beyond[] = {0, 0, 0, 960, 32, 1327104001};
@@ -45,6 +49,8 @@ static void accepted(void) {
     struct linenspruce_reading told = linenspruce_read(code, LINENSPRUCE_CODE);
     show_reading(told);
     show("write", linenspruce_write(dots(), 22, told.fields), 22);
+    show("code_quick", linenspruce_code_quick(dots(), 22, strip, 8, linenspruce_other, 0), 22);
+    show("code_plain", linenspruce_code_plain(dots(), 22, strip, 8, linenspruce_other, 0), 22);
 }
 
 static void refused_coding(void) {

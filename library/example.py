@@ -1,9 +1,13 @@
-"""The library from Python: document 01's case 1 by both roads, its code read and written again, and
-refusals. It prints the lines of example.out, as example.c and example.rs do."""
+"""The library from Python: document 01's case 1 by both roads, its code read and written again, case 5,
+and refusals. It prints the lines of example.out, as example.c and example.rs do."""
 from linenspruce import CODE, Kind, code_plain, code_quick, read, write
 
 # The square of case 1, a building with unit number 1: latitude, longitude, latitude, ..
 SQUARE = [294250496, 857567232, 294250496, 857569280, 294252544, 857569280, 294252544, 857567232]
+
+# Case 5, a strip with its chosen cell at one end: it reaches 31 steps from there at
+# scale 27, so that its code has scale 26.
+STRIP = [0, 0, 0, 961, 32, 961, 32, 0]
 
 # A triangle whose third corner lies beyond 180 degrees.
 BEYOND = [0, 0, 0, 960, 32, 1327104001]
@@ -45,6 +49,8 @@ def accepted():
     told = read(code)
     show_reading(told)
     show_write(22, told.fields)
+    show_code(code_quick, 22, STRIP, Kind.OTHER, 0)
+    show_code(code_plain, 22, STRIP, Kind.OTHER, 0)
 
 
 def refused_coding():

@@ -1,5 +1,5 @@
-//! The library from Rust: document 01's case 1 by both roads, its code read and written again, and
-//! refusals. It prints the lines of example.out, as example.c and example.py do.
+//! The library from Rust: document 01's case 1 by both roads, its code read and written again, case 5,
+//! and refusals. It prints the lines of example.out, as example.c and example.py do.
 mod linenspruce;
 
 use linenspruce::{code_plain, code_quick, read, write, Fields, Kind, Reading, Reply, CODE};
@@ -8,6 +8,10 @@ use linenspruce::{code_plain, code_quick, read, write, Fields, Kind, Reading, Re
 const SQUARE: [u32; 8] = [
     294250496, 857567232, 294250496, 857569280, 294252544, 857569280, 294252544, 857567232,
 ];
+
+/// Case 5, a strip with its chosen cell at one end: it reaches 31 steps from there at
+/// scale 27, so that its code has scale 26.
+const STRIP: [u32; 8] = [0, 0, 0, 961, 32, 961, 32, 0];
 
 /// A triangle whose third corner lies beyond 180 degrees.
 const BEYOND: [u32; 6] = [0, 0, 0, 960, 32, 1327104001];
@@ -53,6 +57,8 @@ fn accepted() {
     let told = read(&room[..CODE]);
     show_reading(told);
     show_write(22, told.fields);
+    show_quick(22, &STRIP, Kind::Other, 0);
+    show_plain(22, &STRIP, Kind::Other, 0);
 }
 
 fn refused_coding() {

@@ -17,7 +17,7 @@
  *          edge of the first such pair starts
  *      6   building with a number not in 1 to 1,048,575, or other kind with a number not 0
  *      7   no cell of levels 9 to 27 is inside
- *      8   a span above 31
+ *          (8, once a span above 31, is given no longer, and nothing else has its number)
  *
  *   reading (linenspruce_read):
  *     11   the text's length is not 20

@@ -142,7 +142,7 @@ def _code(road, room, numbers, kind, number):
 
 
 def code_quick(room, numbers, kind, number):
-    """Codes a unit by the quick road: writes bytes 0 to 19 of the room, or refuses (1 to 8 and 31)
+    """Codes a unit by the quick road: writes bytes 0 to 19 of the room, or refuses (1 to 7 and 31)
     and writes nothing. The numbers are the corners' latitude, longitude, latitude, .."""
     return _code(_loaded().linenspruce_code_quick, room, numbers, kind, number)
 

@@ -97,7 +97,7 @@ impl Kind {
 // In each call below the pointers and lengths are those of slices, which live until it returns; a
 // `&mut` slice shares no byte with another, and an empty one has a pointer that is not followed.
 
-/// Codes a unit by the quick road: writes bytes 0 to 19 of the room, or refuses (1 to 8 and 31) and
+/// Codes a unit by the quick road: writes bytes 0 to 19 of the room, or refuses (1 to 7 and 31) and
 /// writes nothing. The numbers are the corners' latitude, longitude, latitude, ..
 pub fn code_quick(room: &mut [u8], numbers: &[u32], kind: Kind, number: u32) -> Reply {
     let kind = kind.letter();
