@@ -121,17 +121,9 @@ pub good-writing : (room : List ℕ) (f : Fields) → 20 ≤ length room → Goo
 unfolding writing
 good-writing room f h g = rw (room-then room f h ∙ good-pass f g)
 
--- Fields for which writing says 0 are good, and the room has twenty bytes
-pub zero-writing : (room : List ℕ) (f : Fields) → writing room f .said .number ≡ 0 → (20 ≤ length room) × Good f
-unfolding writing roomCheck
-zero-writing room f e =
-    let z = both-pass (roomCheck room) (fieldChecks f) tt e in
-    (room-passed room (z .0), fields-passed f (z .1))
-
+-- Fields that writing accepts are good, and the room has twenty bytes
 pub accepted-writing : (room : List ℕ) (f : Fields) → writing room f .said ≡ accepted → (20 ≤ length room) × Good f
-accepted-writing room f e = zero-writing room f (ap (λ (s : Said). s .number) e)
-
--- Writing that says another number leaves the room
-pub refused-writing : (room : List ℕ) (f : Fields) → eqb (writing room f .said .number) 0 ≡ false → writing room f .room ≡ room
-unfolding writing
-refused-writing room f e = rw e
+unfolding writing roomCheck
+accepted-writing room f e =
+    let z = both-pass (roomCheck room) (fieldChecks f) tt (ap (λ (s : Said). s .number) e) in
+    (room-passed room (z .0), fields-passed f (z .1))

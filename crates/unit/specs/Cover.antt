@@ -99,10 +99,11 @@ module _ {corners : List Point} {number : ℕ} {c : Cell} (p : Passing corners n
   abbrev level : ℕ
   level = levelOf (extremesOf corners) number reference
 
-  fits : Fits level (fieldsAt level (extremesOf corners) number reference)
+  fits : Fits (fieldsAt level (extremesOf corners) number reference)
   fits = one-step between (omega (arith, p .ground .lat, p .ground .lon)) number
 
   is-level : IsLevel level
+  unfolding fieldsAt
   is-level = record { coarsest = omega (arith, fits .least); finest = fits .most }
 
   -- The fields of the cell are good

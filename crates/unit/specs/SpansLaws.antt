@@ -59,8 +59,8 @@ module _ (s : ℕ) (some : 0 < s) where
       (omega arith, omega arith)
 
   -- A distance of at most so many sizes has a span of at most one more
-  cells-most : (n d : ℕ) → d ≤ n * s → spanCells s d ≤ n + 1
-  cells-most n d h =
+  span-within : (n d : ℕ) → d ≤ n * s → spanCells s d ≤ n + 1
+  span-within n d h =
       let few : (d + (s - 1)) / s < n + 1 = div-lt-iff-lt-mul some .1 (omega arith) in
       omega arith
 
@@ -81,7 +81,7 @@ module _ {r : Rectangle} {p : Point} (w : ReferenceIn r p) (level : ℕ) (l : Is
   pub spans-most : (n : ℕ) → spanOf r ≤ n * sizeOf level → SpansMost (n + 1) (fieldsAt level r number p)
   unfolding fieldsAt
   spans-most n h =
-      let most = cells-most (sizeOf level) some n in
+      let most = span-within (sizeOf level) some n in
       record {
         east = most (distance (p .lon .0) (r .east .0)) (omega (arith, w .lon));
         west = most (distance (p .lon .0) (r .west .0)) (omega (arith, w .lon));

@@ -32,15 +32,15 @@ below-31 f e =
     }
 
 -- and the other way
-not-above : (f : Fields) → SpansMost 31 f → above31 f ≡ false
-not-above f m =
+none-above : (f : Fields) → SpansMost 31 f → above31 f ≡ false
+none-above f m =
     none-of (none-of (le-ltb 31 (f .east) (m .east)) (le-ltb 31 (f .west) (m .west)))
     (none-of (le-ltb 31 (f .south) (m .south)) (le-ltb 31 (f .north) (m .north)))
 
--- A level that a code can have, and spans of at most 31 at it
-pub record Fits (level : ℕ) (f : Fields) : Type 0 where
-  pub least : 14 ≤ level
-  pub most : level ≤ finestLevel
+-- A scale that a code can have, and spans of at most 31
+pub record Fits (f : Fields) : Type 0 where
+  pub least : 14 ≤ f .scale
+  pub most : f .scale ≤ finestLevel
   pub spans : SpansMost 31 f
 
 -- From a reference within extents of at most a degree
@@ -59,19 +59,19 @@ module _ {r : Rectangle} {p : Point} (w : ReferenceIn r p) (small : spanOf r ≤
       spans-most w (coarser first) (coarser-level (scale-level (spanOf r))) number 18 (reach-coarser (spanOf r) small h)
 
   -- So one step always suffices
-  pub one-step : Fits (levelOf r number p) (fieldsAt (levelOf r number p) r number p)
-  unfolding levelOf
+  pub one-step : Fits (fieldsAt (levelOf r number p) r number p)
+  unfolding fieldsAt levelOf
   one-step = at (above31 (fieldsAt first r number p)) refl (either-way first 14)
     where
       written : (14 ≤ first) × (first ≤ finestLevel)
       written = scale-written (spanOf r) small
 
       at : (b : Bool) → above31 (fieldsAt first r number p) ≡ b → (first ≤ 14) ⊎ (14 < first)
-          → let level : ℕ = cond b (coarser first) first in Fits level (fieldsAt level r number p)
+          → Fits (fieldsAt (cond b (coarser first) first) r number p)
       at false e side = record { least = written .0; most = written .1; spans = below-31 (fieldsAt first r number p) e }
       at true e (inl low) =
-          let coarsest : first ≡ 14 = omega (arith, written) in
-          absurd (true≢false (sym e ∙ not-above (fieldsAt first r number p) (spans-14 coarsest)))
+          let same : first ≡ 14 = omega (arith, written) in
+          absurd (true≢false (sym e ∙ none-above (fieldsAt first r number p) (spans-14 same)))
       at true e (inr high) =
           let few = spans-coarser high in
           record {
