@@ -37,7 +37,8 @@ fn end_at(room: &mut [u8], r: Rectangle, number: u32, c: Cell) -> Coded
     }
 }
 
-// The end of coding, from the unit's extremes, its number and what a search hands in.
+// The end of coding, from the unit's extremes, its number and what a search hands in; 7 where that is none,
+// is no cell, or has fields that cannot be written.
 pub fn finish(room: &mut [u8], r: Rectangle, number: u32, choice: Choice) -> Coded
     ensures { λ a. ⌜ leaves a (now (room .exit)) ≡ finishing (now (room .entry)) r number choice ⌝ }
 {
