@@ -26,7 +26,7 @@ fn end(room: &mut [u8], f: Fields) -> Coded
     Coded::NoCell
 }
 
-// The end of coding around a cell; 7 where it is no cell of levels 9 to 27 within the range.
+// The end of coding around a cell; 7 where it is no cell of levels 9 to 27 within the range, or has no code.
 fn end_at(room: &mut [u8], r: Rectangle, number: u32, c: Cell) -> Coded
     ensures { λ a. ⌜ leaves a (now (room .exit)) ≡ finishing (now (room .entry)) r number (At c) ⌝ }
 {
