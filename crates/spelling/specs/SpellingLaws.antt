@@ -2,12 +2,13 @@
 use Prim.Native.Nat.{ℕ, _%_, _^_, _≤_, _<_}
 use native.Mathlib.Omega.{arith}
 use mathlib.Core.Path.{_≡_, refl, ap, ap₂, _∙_, sym, subst}
+use mathlib.Core.Bool.{Bool, true, false, cond}
 use mathlib.Core.List.{List, _++_, map, map-append, append-assoc}
 use lib.Dec.{T, eqb}
 use lib.ListN.{length, take, drop, length-take, length-drop, take-append-drop}
 use lib.Seq.{length-take-le, take-at, drop-at, drop-drop, take-all}
 use borrow.Author.Tests.{ltb-false, eqb-true, not-false, eq-eqb, le-ltb}
-use Rattle.replies.specs.Replies.{accepted, run}
+use Rattle.replies.specs.Replies.{Said, accepted, run}
 use Rattle.replies.specs.RepliesLaws.{numbered, Passed, passed}
 use Rattle.letters.specs.Alphabet.{firstOther, letterIn}
 use Rattle.letters.specs.Digits.{digits, digits-are, digits-append}
@@ -25,7 +26,7 @@ use Rattle.letters.specs.Words.{
   digits-word,
   number-spelled,
 }
-use Rattle.spelling.specs.Spelling.{spelledBoth, spelledInto, locationIn, restIn, textChecks, twoNumbers, numbersIn}
+use Rattle.spelling.specs.Spelling.{spelledBoth, spelledInto, locationIn, restIn, textChecks, twoNumbers, noNumbers, numbersIn}
 
 -- Twenty letters
 pub record TwentyLetters (text : List ℕ) : Type 0 where
@@ -59,6 +60,16 @@ letters-pass {text} t =
 pub letters-spell : {text : List ℕ} → TwentyLetters text → numbersIn text ≡ twoNumbers (locationIn text) (restIn text)
 unfolding numbersIn
 letters-spell t = rw (letters-pass t)
+
+-- and only twenty letters do
+pub spelled-twenty : (text : List ℕ) → numbersIn text .said .number ≡ 0 → TwentyLetters text
+unfolding numbersIn
+spelled-twenty text e = text-passed text (at (run (textChecks text)) (eqb (run (textChecks text) .number) 0) refl e)
+  where
+    at : (s : Said) (b : Bool) → eqb (s .number) 0 ≡ b → cond b (twoNumbers (locationIn text) (restIn text)) (noNumbers s) .said .number ≡ 0
+        → s .number ≡ 0
+    at s true k e = eqb-true (s .number) 0 k
+    at s false k e = e
 
 module _ {text : List ℕ} (t : TwentyLetters text) where
   eleven : length (take 11 text) ≡ 11

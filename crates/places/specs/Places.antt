@@ -1,0 +1,33 @@
+-- The places of an account (document 02, request 3): what is free, what has a code active, and the lowest such place. Assumes nothing.
+use Prim.Native.Nat.{ℕ, zero, suc}
+use mathlib.Core.Bool.{Bool, cond, not, _&&_}
+use mathlib.Core.List.{List}
+use lib.Dec.{eqb}
+use lib.ListN.{getD}
+use Rattle.halves.specs.declared.Halves.{Halves}
+use Rattle.halves.specs.Halves.{sameCode}
+
+-- "256 free places": how many places there are
+abbrev pub places : ℕ
+places = 256
+
+-- Activity: 0 is free
+abbrev pub isFree : List ℕ → ℕ → Bool
+isFree active i = eqb (getD active i 0) 0
+
+-- What a place holds: a code by its halves
+abbrev pub codeOn : List ℕ → List ℕ → ℕ → Halves
+codeOn high low i = record { high = getD high i 0; low = getD low i 0 }
+
+-- Whether a code is active at a place
+abbrev pub holds : List ℕ → List ℕ → List ℕ → Halves → ℕ → Bool
+holds high low active code i = not (isFree active i) && sameCode (codeOn high low i) code
+
+-- The lowest of n numbers from one on that passes a test, and the number after them where none does
+abbrev pub lowestFrom : ℕ → ℕ → (ℕ → Bool) → ℕ
+lowestFrom zero from test = from
+lowestFrom (suc n) from test = cond (test from) from (lowestFrom n (suc from) test)
+
+-- The lowest place that passes a test, 256 where none does
+unfoldable pub lowestPlace : (ℕ → Bool) → ℕ
+lowestPlace test = lowestFrom places 0 test

@@ -1,0 +1,50 @@
+// The places of an account: 256 of activity, with the halves of a code each. Searched from place 0 up;
+// where none is found the answer is 256.
+ghost use mathlib.Core.Path.{_≡_};
+ghost use mathlib.Core.Bool.{not, _&&_};
+ghost use lib.Dec.{eqb};
+ghost use Rattle.places.specs.Places.{isFree, holds, lowestPlace};
+use halves::Halves;
+
+// How many places an account has.
+pub const PLACES: usize = 256;
+
+// The lowest free place.
+pub fn free_place(active: &[u64; PLACES]) -> usize
+    ensures { λ r. ⌜ r ≡ lowestPlace (isFree (now (active .entry))) ⌝ }
+{
+    let mut i = 0;
+    while i < PLACES {
+        if active[i] == 0 {
+            return i;
+        }
+        i += 1;
+    }
+    i
+}
+
+// The lowest place at which a code is active.
+pub fn code_place<'a>(
+    high: &'a [u64; PLACES],
+    low: &'a [u64; PLACES],
+    active: &'a [u64; PLACES],
+    code: Halves,
+) -> usize
+    ensures { λ r. ⌜ r ≡ lowestPlace (holds (now (high .entry)) (now (low .entry)) (now (active .entry)) code) ⌝ }
+{
+    let mut i = 0;
+    while i < PLACES {
+        if has(active[i], high[i], low[i], code) {
+            return i;
+        }
+        i += 1;
+    }
+    i
+}
+
+// Whether a place of this activity and these halves has a code active.
+fn has(active: u64, high: u64, low: u64, code: Halves) -> bool
+    ensures { λ r. ⌜ r ≡ (not (eqb active 0) && (eqb high (code .high) && eqb low (code .low))) ⌝ }
+{
+    active != 0 && (high == code.high && low == code.low)
+}
