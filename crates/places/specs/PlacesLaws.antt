@@ -44,7 +44,7 @@ lowest-is test (suc n) from = at (test from) refl (lowest-is test n (suc from))
         here k l (inl s) = subst (λ (j : ℕ). test j ≡ false) s e
         here k l (inr s) = later .before k s l
 
-module _ {test : ℕ → Bool} where
+module _ (test : ℕ → Bool) where
   -- The lowest place is at most 256
   pub lowest-most : lowestPlace test ≤ places
   unfolding lowestPlace
@@ -85,15 +85,15 @@ module _ {test : ℕ → Bool} where
   none-found {i} p h e = at (either-way i (lowestPlace test))
     where
       at : (i ≤ lowestPlace test) ⊎ (lowestPlace test < i) → i ≡ lowestPlace test
-      at (inl k) = omega (arith, k, lowest-least i e)
+      at (inl k) = omega (arith, k, lowest-least test i e)
       at (inr k) =
-          absurd (true≢false (sym (lowest-passes (omega arith)) ∙ p .none (lowestPlace test) k))
+          absurd (true≢false (sym (lowest-passes test (omega arith)) ∙ p .none (lowestPlace test) k))
 
   -- or past them all
   pub none-finish : {i : ℕ} → NoneBelow test i → places ≤ i → i ≡ lowestPlace test
   none-finish {i} p h = at (either-way i (lowestPlace test))
     where
       at : (i ≤ lowestPlace test) ⊎ (lowestPlace test < i) → i ≡ lowestPlace test
-      at (inl k) = omega (arith, k, h, lowest-most {test})
+      at (inl k) = omega (arith, k, h, lowest-most test)
       at (inr k) =
-          absurd (true≢false (sym (lowest-passes (omega (arith, p .within))) ∙ p .none (lowestPlace test) k))
+          absurd (true≢false (sym (lowest-passes test (omega (arith, p .within))) ∙ p .none (lowestPlace test) k))

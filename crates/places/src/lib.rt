@@ -46,5 +46,11 @@ pub fn code_place<'a>(
 fn has(active: u64, high: u64, low: u64, code: Halves) -> bool
     ensures { λ r. ⌜ r ≡ (not (eqb active 0) && (eqb high (code .high) && eqb low (code .low))) ⌝ }
 {
-    active != 0 && (high == code.high && low == code.low)
+    if active == 0 {
+        return false;
+    }
+    if high != code.high {
+        return false;
+    }
+    low == code.low
 }

@@ -1,66 +1,60 @@
+-- `places::code_place` meets its contract: the code is active at no place below `i`. Assumes nothing.
+use Prim.Native.Nat.{_-_}
+use mathlib.Core.Path.{sym, _∙_}
+use borrow.Author.Needs.{needs}
+use Rattle.places.specs.Places.{places, holds}
+use Rattle.places.specs.PlacesLaws.{NoneBelow, none-begin, none-again, none-found, none-finish}
 use Rattle.places.proofs.code_place.Statement.{statement}
 use Rattle.places.proofs.code_place.Tie as tie
-use Rattle.places.proofs.code_place.Reads as reads
-use Rattle.places.proofs.code_place.Lts as lts
-use Rattle.places.proofs.has.Reads as has-reads
 
 abbrev Inv-loop : tie.InvT-loop
-Inv-loop high low active code i₀ i = ?
+Inv-loop high low active code i₀ i = NoneBelow (holds high low active code) i
 
 abbrev μ-loop : tie.MeasureT-loop
-μ-loop high low active code i₀ i = ?
+μ-loop high low active code i₀ i = places - i
 
--- src/lib.rt:36:5
 loop-holds : tie.Need-loop-holds Inv-loop μ-loop
-loop-holds c = ?
+loop-holds c = none-begin
 
--- src/lib.rt:37:16
 mul-has : tie.Need-mul-has Inv-loop μ-loop
-mul-has c = ?
+mul-has c = search needs
 
--- src/lib.rt:37:16
 element-copy-out-has : tie.Need-element-copy-out-has Inv-loop μ-loop
-element-copy-out-has c = ?
+element-copy-out-has c = search needs
 
--- src/lib.rt:37:27
 mul-has-2 : tie.Need-mul-has-2 Inv-loop μ-loop
-mul-has-2 c = ?
+mul-has-2 c = search needs
 
--- src/lib.rt:37:27
 element-copy-out-has-2 : tie.Need-element-copy-out-has-2 Inv-loop μ-loop
-element-copy-out-has-2 c = ?
+element-copy-out-has-2 c = search needs
 
--- src/lib.rt:37:36
 mul-has-3 : tie.Need-mul-has-3 Inv-loop μ-loop
-mul-has-3 c = ?
+mul-has-3 c = search needs
 
--- src/lib.rt:37:36
 element-copy-out-has-3 : tie.Need-element-copy-out-has-3 Inv-loop μ-loop
-element-copy-out-has-3 c = ?
+element-copy-out-has-3 c = search needs
 
--- src/lib.rt:37:12
 has-requires : tie.Need-has-requires Inv-loop μ-loop
-has-requires c κs = ?
+has-requires c κs = search needs
 
--- src/lib.rt:38:13
 returns : tie.Need-returns Inv-loop μ-loop
-returns c = ?
+returns c =
+    let at = c .before .before .before .before .before .before in
+    none-found (at .loop .inv) (search needs) (sym (c .before .has .ensures) ∙ c .if1 .taken)
 
--- src/lib.rt:40:9
 add-i : tie.Need-add-i Inv-loop μ-loop
-add-i c = ?
+add-i c = search needs
 
--- src/lib.rt:36:5
 loop-less : tie.Need-loop-less Inv-loop μ-loop
-loop-less c = ?
+loop-less c = search needs
 
--- src/lib.rt:36:5
 loop-again : tie.Need-loop-again Inv-loop μ-loop
-loop-again c = ?
+loop-again c =
+    let at = c .before .before .before .before .before .before in
+    none-again (at .loop .inv) (search needs) (sym (c .before .has .ensures) ∙ c .if1 .left)
 
--- src/lib.rt:27:1
 returns-2 : tie.Need-returns-2 Inv-loop μ-loop
-returns-2 c = ?
+returns-2 c = none-finish (c .before .loop .inv) (search needs)
 
 pub code-place-spec : {M : Type 1} → statement M
 code-place-spec =

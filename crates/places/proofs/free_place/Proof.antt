@@ -1,45 +1,46 @@
+-- `places::free_place` meets its contract: no place below `i` is free. Assumes nothing.
+use Prim.Native.Nat.{_-_}
+use borrow.Author.Needs.{needs}
+use borrow.Author.Tests.{eq-eqb, ne-eqb}
+use lib.ListN.{getD}
+use Rattle.places.specs.Places.{places, isFree}
+use Rattle.places.specs.PlacesLaws.{NoneBelow, none-begin, none-again, none-found, none-finish}
 use Rattle.places.proofs.free_place.Statement.{statement}
 use Rattle.places.proofs.free_place.Tie as tie
-use Rattle.places.proofs.free_place.Reads as reads
-use Rattle.places.proofs.free_place.Lts as lts
 
 abbrev Inv-loop : tie.InvT-loop
-Inv-loop active i₀ i = ?
+Inv-loop active i₀ i = NoneBelow (isFree active) i
 
 abbrev μ-loop : tie.MeasureT-loop
-μ-loop active i₀ i = ?
+μ-loop active i₀ i = places - i
 
--- src/lib.rt:17:5
 loop-holds : tie.Need-loop-holds Inv-loop μ-loop
-loop-holds c = ?
+loop-holds c = none-begin
 
--- src/lib.rt:18:12
 mul-if1 : tie.Need-mul-if1 Inv-loop μ-loop
-mul-if1 c = ?
+mul-if1 c = search needs
 
--- src/lib.rt:18:12
 element-copy-out-if1 : tie.Need-element-copy-out-if1 Inv-loop μ-loop
-element-copy-out-if1 c = ?
+element-copy-out-if1 c = search needs
 
--- src/lib.rt:19:13
 returns : tie.Need-returns Inv-loop μ-loop
-returns c = ?
+returns c =
+    let at = c .before .before .before in
+    none-found (at .loop .inv) (search needs) (eq-eqb (getD (at .before .args .active .now) (at .loop .i) 0) 0 (c .if1 .taken))
 
--- src/lib.rt:21:9
 add-i : tie.Need-add-i Inv-loop μ-loop
-add-i c = ?
+add-i c = search needs
 
--- src/lib.rt:17:5
 loop-less : tie.Need-loop-less Inv-loop μ-loop
-loop-less c = ?
+loop-less c = search needs
 
--- src/lib.rt:17:5
 loop-again : tie.Need-loop-again Inv-loop μ-loop
-loop-again c = ?
+loop-again c =
+    let at = c .before .before .before in
+    none-again (at .loop .inv) (search needs) (ne-eqb (getD (at .before .args .active .now) (at .loop .i) 0) 0 (c .if1 .left))
 
--- src/lib.rt:13:1
 returns-2 : tie.Need-returns-2 Inv-loop μ-loop
-returns-2 c = ?
+returns-2 c = none-finish (c .before .loop .inv) (search needs)
 
 pub free-place-spec : {M : Type 1} → statement M
 free-place-spec =
