@@ -1,0 +1,203 @@
+-- The account of entitlements (document 02, request 3), in the request's words: what an account keeps, what is active, what messages
+-- answer and what they leave. Assumes nothing.
+use Prim.Native.Nat.{ℕ, suc}
+use mathlib.Core.Bool.{Bool, true, false, cond, not, _&&_, _||_}
+use mathlib.Core.List.{List, [], _∷_}
+use lib.Dec.{eqb, leb, ltb}
+use lib.ListN.{replicate, set}
+use Rattle.facts.specs.Texts.{bytes}
+use Rattle.halves.specs.declared.Halves.{Halves}
+use Rattle.halves.specs.Halves.{halvesIn, readable, isCode}
+use Rattle.places.specs.Places.{places, isFree, codeOn, holds, lowestPlace}
+use Rattle.entitlements.specs.declared.Account.{Account}
+use Rattle.entitlements.specs.declared.Kind.{Kind}
+use Rattle.entitlements.specs.declared.Kind.the-variants.{Activate, Cancel}
+use Rattle.entitlements.specs.declared.Answer.{Answer}
+use Rattle.entitlements.specs.declared.Answer.the-variants as answer
+use Rattle.entitlements.specs.declared.Answered.{Answered}
+
+-- ---- "An empty account has 256 free places and a last number of 0"
+
+abbrev pub empty : Account
+empty = record { high = replicate places 0; low = replicate places 0; active = replicate places 0; last = 0 }
+
+-- ---- What is active
+
+-- What a place holds: a code by its halves
+abbrev pub codeAt : Account → ℕ → Halves
+codeAt account i = codeOn (account .high) (account .low) i
+
+-- Whether a place is active: 0 is free, any other number active
+abbrev pub activeAt : Account → ℕ → Bool
+activeAt account i = not (isFree (account .active) i)
+
+-- The place of an active code, 256 where the code is not active
+abbrev pub placeOf : Account → Halves → ℕ
+placeOf account code = lowestPlace (holds (account .high) (account .low) (account .active) code)
+
+-- Whether a code is active
+abbrev pub isActive : Account → Halves → Bool
+isActive account code = ltb (placeOf account code) places
+
+-- The lowest free place, 256 where none is free
+abbrev pub freePlace : Account → ℕ
+freePlace account = lowestPlace (isFree (account .active))
+
+-- Full: all 256 places are active
+abbrev pub isFull : Account → Bool
+isFull account = not (ltb (freePlace account) places)
+
+-- How many places are active
+abbrev pub countActive : List ℕ → ℕ
+countActive [] = 0
+countActive (a ∷ active) = cond (eqb a 0) (countActive active) (suc (countActive active))
+
+-- ---- The answers
+
+-- An answer: a refusal's number, 0 for any other; the words of one that is no refusal; whether it uses up the message number
+pub record Answering : Type 0 where
+  pub number : ℕ
+  pub words : List ℕ
+  pub uses : Bool
+
+-- "Activating an active code answers "already", cancelling an inactive one "not active"; both use up the number"
+abbrev pub activated : Answering
+activated = record { number = 0; words = bytes "activated"; uses = true }
+
+abbrev pub already : Answering
+already = record { number = 0; words = bytes "already"; uses = true }
+
+abbrev pub cancelled : Answering
+cancelled = record { number = 0; words = bytes "cancelled"; uses = true }
+
+abbrev pub notActive : Answering
+notActive = record { number = 0; words = bytes "not active"; uses = true }
+
+-- "A number not above the last one processed is answered "old" and changes nothing"
+abbrev pub old : Answering
+old = record { number = 0; words = bytes "old"; uses = false }
+
+-- 40, 41 and 42
+abbrev pub refusal : ℕ → Answering
+refusal number = record { number = number; words = []; uses = false }
+
+-- "43 full .. and it uses up the number too"
+abbrev pub full : Answering
+full = record { number = 43; words = []; uses = true }
+
+-- The number and the words of each answer, and whether it uses up the message number
+abbrev pub says : Answer → Answering
+says answer.Activated = activated
+says answer.Already = already
+says answer.Cancelled = cancelled
+says answer.NotActive = notActive
+says answer.Old = old
+says answer.Account = refusal 40
+says answer.Number = refusal 41
+says answer.Code = refusal 42
+says answer.Full = full
+
+-- ---- What a message does: its answer, and the account afterwards
+
+pub record Done : Type 0 where
+  pub answer : Answering
+  pub account : Account
+
+abbrev pub done : Answering → Account → Done
+done answer account = record { answer = answer; account = account }
+
+-- What a function hands back
+abbrev pub does : Answered → Done
+does r = done (says (r .answer)) (r .account)
+
+-- A row of a table: where it applies, this is done
+pub record Row : Type 0 where
+  pub applies : Bool
+  pub then : Done
+
+abbrev pub row : Bool → Answering → Account → Row
+row applies answer account = record { applies = applies; then = done answer account }
+
+-- The first row that applies, or what is done where none does
+abbrev pub decide : List Row → Done → Done
+decide [] other = other
+decide (r ∷ rows) other = cond (r .applies) (r .then) (decide rows other)
+
+-- The account with a number used up, and nothing else changed
+abbrev pub used : ℕ → Account → Account
+used number account = record { high = account .high; low = account .low; active = account .active; last = number }
+
+-- "An activation takes the lowest free place": the code is active there, and no other place changes
+abbrev pub taken : ℕ → Account → Halves → Account
+taken number account code = record {
+  high = set (account .high) (freePlace account) (code .high);
+  low = set (account .low) (freePlace account) (code .low);
+  active = set (account .active) (freePlace account) 1;
+  last = number;
+}
+
+-- "a cancelled place is cleared to zero and used again": no other place changes
+abbrev pub cleared : ℕ → Account → Halves → Account
+cleared number account code = record {
+  high = set (account .high) (placeOf account code) 0;
+  low = set (account .low) (placeOf account code) 0;
+  active = set (account .active) (placeOf account code) 0;
+  last = number;
+}
+
+-- An activation of a code: "already"; "43 full, exactly when an activation finds 256 others active and its code not"
+unfoldable pub activation : Account → Halves → ℕ → Done
+activation account code number =
+    decide
+    (row (isActive account code) already (used number account)
+    ∷ row (isFull account) full (used number account)
+    ∷ [])
+    (done activated (taken number account code))
+
+-- A cancellation of a code
+unfoldable pub cancellation : Account → Halves → ℕ → Done
+cancellation account code number =
+    decide (row (not (isActive account code)) notActive (used number account) ∷ []) (done cancelled (cleared number account code))
+
+-- "An account takes two messages, activate and cancel"
+abbrev pub acting : Kind → Account → Halves → ℕ → Done
+acting Activate = activation
+acting Cancel = cancellation
+
+-- ---- "Refusals, in order"
+
+-- "a message number from 1 to 1,099,511,627,775"
+abbrev pub largest : ℕ
+largest = 1099511627775
+
+-- "41 message number 0 or too large, 42 a code that reading refuses, then "old"": after 41 and 42 the account is as it went in
+unfoldable pub processing : Kind → Account → List ℕ → ℕ → Done
+processing kind account text number =
+    decide
+    (row (eqb number 0 || ltb largest number) (refusal 41) account
+    ∷ row (not (readable text)) (refusal 42) account
+    ∷ row (leb number (account .last)) old account
+    ∷ [])
+    (acting kind account (halvesIn text) number)
+
+-- An active place whose code is active at a lower place too
+abbrev pub twiceAt : Account → ℕ → Bool
+twiceAt account i = activeAt account i && ltb (placeOf account (codeAt account i)) i
+
+-- An active place whose content is no code that reading accepts
+abbrev pub noCodeAt : Account → ℕ → Bool
+noCodeAt account i = activeAt account i && not (isCode (codeAt account i))
+
+-- Whether a test passes at any place
+abbrev pub somewhere : (ℕ → Bool) → Bool
+somewhere test = ltb (lowestPlace test) places
+
+-- "40 an account handed in with one code active twice, an active place whose content is no code that reading accepts, or a last number
+-- too large"
+unfoldable pub noAccount : Account → Bool
+noAccount account = somewhere (twiceAt account) || (somewhere (noCodeAt account) || ltb largest (account .last))
+
+-- A message: 40 comes first, and the account is as it went in
+unfoldable pub message : Kind → Account → List ℕ → ℕ → Done
+message kind account text number =
+    decide (row (noAccount account) (refusal 40) account ∷ []) (processing kind account text number)

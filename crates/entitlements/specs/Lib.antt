@@ -1,0 +1,3 @@
+-- The account of entitlements, its laws, and that no second answer meets a promise.
+pub mod Entitlements
+pub mod Once
