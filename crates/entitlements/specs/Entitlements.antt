@@ -127,23 +127,22 @@ decide (r ∷ rows) other = cond (r .applies) (r .then) (decide rows other)
 abbrev pub used : ℕ → Account → Account
 used number account = record { high = account .high; low = account .low; active = account .active; last = number }
 
--- "An activation takes the lowest free place": the code is active there, and no other place changes
-abbrev pub taken : ℕ → Account → Halves → Account
-taken number account code = record {
-  high = set (account .high) (freePlace account) (code .high);
-  low = set (account .low) (freePlace account) (code .low);
-  active = set (account .active) (freePlace account) 1;
+-- The account with a number used up, and with this put at a place: halves and activity. No other place changes
+abbrev pub putAt : Account → ℕ → Halves → ℕ → ℕ → Account
+putAt account place code active number = record {
+  high = set (account .high) place (code .high);
+  low = set (account .low) place (code .low);
+  active = set (account .active) place active;
   last = number;
 }
 
--- "a cancelled place is cleared to zero and used again": no other place changes
+-- "An activation takes the lowest free place"
+abbrev pub taken : ℕ → Account → Halves → Account
+taken number account code = putAt account (freePlace account) code 1 number
+
+-- "a cancelled place is cleared to zero and used again"
 abbrev pub cleared : ℕ → Account → Halves → Account
-cleared number account code = record {
-  high = set (account .high) (placeOf account code) 0;
-  low = set (account .low) (placeOf account code) 0;
-  active = set (account .active) (placeOf account code) 0;
-  last = number;
-}
+cleared number account code = putAt account (placeOf account code) (record { high = 0; low = 0 }) 0 number
 
 -- An activation of a code: "already"; "43 full, exactly when an activation finds 256 others active and its code not"
 unfoldable pub activation : Account → Halves → ℕ → Done

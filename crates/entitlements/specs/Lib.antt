@@ -1,3 +1,4 @@
 -- The account of entitlements, its laws, and that no second answer meets a promise.
 pub mod Entitlements
+pub mod Rows
 pub mod Once

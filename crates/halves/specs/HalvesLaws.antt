@@ -29,7 +29,7 @@ use Rattle.spelling.specs.SpellingLaws.{
 use Rattle.code.specs.Code.{Told, tellsNothing, reading, readingNumbers, readingOn}
 use Rattle.code.specs.ReadingLaws.{reading-letters}
 use Rattle.halves.specs.declared.Halves.{Halves}
-use Rattle.halves.specs.declared.Code.the-variants.{Refused}
+use Rattle.halves.specs.declared.Code.the-variants.{Read, Refused}
 use Rattle.halves.specs.declared.Code.{Code}
 use Rattle.halves.specs.Halves.{halvesIn, spelledHalves, readable, accepted, isCode, cutOf, codeOf, codeIn}
 
@@ -134,3 +134,32 @@ readable-code text k =
             → cond b (readingNumbers (n .location) (n .rest)) (tellsNothing (n .said)) .said .number ≡ 0 → n .said .number ≡ 0
         at n true k e = eqb-true (n .said .number) 0 k
         at n false k e = e
+
+-- What a code tells of its text
+abbrev isRead : Code → Bool
+isRead (Read halves) = true
+isRead Refused = false
+
+abbrev halvesOf : Halves → Code → Halves
+halvesOf other (Read halves) = halves
+halvesOf other Refused = other
+
+module _ (text : List ℕ) where
+  -- Whether it is read
+  code-readable : isRead (codeIn text) ≡ readable text
+  unfolding codeIn
+  code-readable = at (readable text)
+    where
+      at : (b : Bool) → isRead (cond b (Read (halvesIn text)) Refused) ≡ b
+      at true = refl
+      at false = refl
+
+  pub code-refused : codeIn text ≡ Refused → readable text ≡ false
+  code-refused e = sym code-readable ∙ ap isRead e
+
+  -- and by which halves
+  pub code-read : {code : Halves} → codeIn text ≡ Read code → (readable text ≡ true) × (halvesIn text ≡ code)
+  unfolding codeIn
+  code-read {code} e =
+      let read : readable text ≡ true = sym code-readable ∙ ap isRead e in
+      (read, ap (λ (b : Bool). halvesOf code (cond b (Read (halvesIn text)) Refused)) (sym read) ∙ ap (halvesOf code) e)
