@@ -1,0 +1,61 @@
+-- The arrays of an account, lent to a loop over its places that looks for one that 40 refuses. Assumes nothing.
+use Prim.Native.Nat.{ℕ, _+_, _<_, _≤_}
+use native.Mathlib.Omega.{arith}
+use mathlib.Core.Path.{_≡_, sym, _∙_}
+use mathlib.Core.Bool.{Bool, true, false, _||_, or-false}
+use mathlib.Core.List.{List}
+use borrow.Author.Tests.{lt-ltb, le-ltb}
+use Rattle.facts.specs.Tests.{either-left, either-right, none-of}
+use Rattle.places.specs.Places.{places, lowestPlace}
+use Rattle.places.specs.PlacesLaws.{lowest-least, NoneBelow, none-begin, none-again, none-finish}
+use Rattle.entitlements.specs.declared.Account.{Account}
+use Rattle.entitlements.specs.Entitlements.{twiceAt, noCodeAt, somewhere, largest, noAccount}
+
+-- An account by its arrays: of these alone it goes whether a place is refused
+abbrev pub lent : List ℕ → List ℕ → List ℕ → Account
+lent high low active = record { high = high; low = low; active = active; last = 0 }
+
+-- Whether some place has a code that is active twice, or a content that is no code
+abbrev pub badPlace : Account → Bool
+badPlace account = somewhere (twiceAt account) || somewhere (noCodeAt account)
+
+-- A place that passes a test is somewhere
+some-place : (test : ℕ → Bool) (i : ℕ) → i < places → test i ≡ true → somewhere test ≡ true
+some-place test i h e = lt-ltb (lowestPlace test) places (omega (arith, h, lowest-least test i e))
+
+-- and where none does, none is
+no-place : (test : ℕ → Bool) {i : ℕ} → NoneBelow test i → places ≤ i → somewhere test ≡ false
+no-place test p h = le-ltb (lowestPlace test) places (omega (arith, h, none-finish p h))
+
+-- The loop has met no such place below i
+pub record Sound (account : Account) (i : ℕ) : Type 0 where
+  pub once : NoneBelow (twiceAt account) i
+  pub codes : NoneBelow (noCodeAt account) i
+
+module _ (account : Account) where
+  pub sound-begin : Sound account 0
+  sound-begin = record { once = none-begin; codes = none-begin }
+
+  module _ {i : ℕ} (h : i < places) where
+    pub sound-again : Sound account i → twiceAt account i ≡ false → noCodeAt account i ≡ false → Sound account (i + 1)
+    sound-again p e k = record { once = none-again (p .once) h e; codes = none-again (p .codes) h k }
+
+    -- It stops at one that is refused
+    pub twice-found : twiceAt account i ≡ true → badPlace account ≡ true
+    twice-found e = either-left (somewhere (noCodeAt account)) (some-place (twiceAt account) i h e)
+
+    pub no-code-found : noCodeAt account i ≡ true → badPlace account ≡ true
+    no-code-found e = either-right (somewhere (twiceAt account)) (some-place (noCodeAt account) i h e)
+
+  pub sound-end : {i : ℕ} → Sound account i → places ≤ i → badPlace account ≡ false
+  sound-end p h = none-of (no-place (twiceAt account) (p .once) h) (no-place (noCodeAt account) (p .codes) h)
+
+  -- 40, by the last number or by a place
+  pub last-large : largest < account .last → noAccount account ≡ true
+  unfolding noAccount
+  last-large h =
+      either-right (somewhere (twiceAt account)) (either-right (somewhere (noCodeAt account)) (lt-ltb largest (account .last) h))
+
+  pub last-within : account .last ≤ largest → noAccount account ≡ badPlace account
+  unfolding noAccount
+  last-within h = rw (le-ltb largest (account .last) h, or-false)

@@ -1,0 +1,112 @@
+// The two messages to an account, activate and cancel. The account is handed in and handed back; it is
+// checked as a whole, 40, before it is touched.
+ghost use Prim.Native.Nat.{_<_};
+ghost use mathlib.Core.Path.{_≡_};
+ghost use Rattle.places.specs.Places.{places};
+ghost use Rattle.entitlements.specs.declared.Kind.the-variants.{Activate, Cancel};
+ghost use Rattle.entitlements.specs.Entitlements.{twiceAt, noCodeAt, noAccount, does, message};
+ghost use Rattle.message.specs.Lent.{lent, badPlace};
+use entitlements::Account;
+use entitlements::Answer;
+use entitlements::Answered;
+use entitlements::Kind;
+use halves::Halves;
+use places::PLACES;
+
+// Whether a place is active with a code that is active at a lower place too.
+fn is_twice<'a>(
+    high: &'a [u64; PLACES],
+    low: &'a [u64; PLACES],
+    active: &'a [u64; PLACES],
+    i: usize,
+) -> bool
+    requires { ⌜ i < places ⌝ }
+    ensures { λ r. ⌜ r ≡ twiceAt (lent (now (high .entry)) (now (low .entry)) (now (active .entry))) i ⌝ }
+{
+    if active[i] == 0 {
+        return false;
+    }
+    let code = Halves {
+        high: high[i],
+        low: low[i],
+    };
+    places::code_place(high, low, active, code) < i
+}
+
+// Whether a place is active with a content that is no code.
+fn is_no_code<'a>(
+    high: &'a [u64; PLACES],
+    low: &'a [u64; PLACES],
+    active: &'a [u64; PLACES],
+    i: usize,
+) -> bool
+    requires { ⌜ i < places ⌝ }
+    ensures { λ r. ⌜ r ≡ noCodeAt (lent (now (high .entry)) (now (low .entry)) (now (active .entry))) i ⌝ }
+{
+    if active[i] == 0 {
+        return false;
+    }
+    let code = Halves {
+        high: high[i],
+        low: low[i],
+    };
+    !halves::is_code(code)
+}
+
+// Whether there is a place of either kind.
+fn bad_place<'a>(
+    high: &'a [u64; PLACES],
+    low: &'a [u64; PLACES],
+    active: &'a [u64; PLACES],
+) -> bool
+    ensures { λ r. ⌜ r ≡ badPlace (lent (now (high .entry)) (now (low .entry)) (now (active .entry))) ⌝ }
+{
+    let mut i = 0;
+    while i < PLACES {
+        if is_twice(high, low, active, i) {
+            return true;
+        }
+        if is_no_code(high, low, active, i) {
+            return true;
+        }
+        i += 1;
+    }
+    false
+}
+
+// Whether an account is refused by 40.
+fn no_account(account: Account) -> bool
+    ensures { λ r. ⌜ r ≡ noAccount account ⌝ }
+{
+    if account.last > entitlements::LARGEST {
+        return true;
+    }
+    bad_place(&account.high, &account.low, &account.active)
+}
+
+// Answers a message of either kind.
+fn answer(kind: Kind, account: Account, text: &[u8], number: u64) -> Answered
+    ensures { λ r. ⌜ does r ≡ message kind account (now (text .entry)) number ⌝ }
+{
+    if no_account(account) {
+        return Answered {
+            answer: Answer::Account,
+            account,
+        };
+    }
+    processing::process(kind, account, text, number)
+}
+
+// Activates a code, of any text, by a message of any number, in any account.
+pub fn activate(account: Account, text: &[u8], number: u64) -> Answered
+    ensures { λ r. ⌜ does r ≡ message Activate account (now (text .entry)) number ⌝ }
+{
+    answer(Kind::Activate, account, text, number)
+}
+
+// Cancels a code, likewise.
+pub fn cancel(account: Account, text: &[u8], number: u64) -> Answered
+    ensures { λ r. ⌜ does r ≡ message Cancel account (now (text .entry)) number ⌝ }
+{
+    answer(Kind::Cancel, account, text, number)
+}
