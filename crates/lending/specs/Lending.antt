@@ -1,0 +1,30 @@
+-- A message to an account that is lent as three arrays and a number (document 02, request 3, for callers who cannot hand an account over
+-- by value). Assumes nothing.
+use Prim.Native.Nat.{ℕ}
+use mathlib.Core.Bool.{Bool, cond, _&&_}
+use mathlib.Core.List.{List}
+use lib.Dec.{eqb}
+use lib.ListN.{length}
+use Rattle.places.specs.Places.{places}
+use Rattle.entitlements.specs.declared.Account.{Account}
+use Rattle.entitlements.specs.declared.Kind.{Kind}
+use Rattle.entitlements.specs.Entitlements.{refusal, says, Done, done, message}
+use Rattle.lending.specs.declared.Lent.{Lent}
+
+-- An account by what is lent
+abbrev pub accountOf : List ℕ → List ℕ → List ℕ → ℕ → Account
+accountOf high low active last = record { high = high; low = low; active = active; last = last }
+
+-- Whether what is lent has 256 places
+abbrev pub isAccount : List ℕ → List ℕ → List ℕ → Bool
+isAccount high low active = eqb (length high) places && (eqb (length low) places && eqb (length active) places)
+
+-- A message: 40 for arrays that are no account, and all is as it was lent
+unfoldable pub lending : Kind → List ℕ → List ℕ → List ℕ → ℕ → List ℕ → ℕ → Done
+lending kind high low active last text number =
+    cond (isAccount high low active) (message kind (accountOf high low active last) text number)
+    (done (refusal 40) (accountOf high low active last))
+
+-- What a function answers and leaves in the arrays
+abbrev pub lends : Lent → List ℕ → List ℕ → List ℕ → Done
+lends r high low active = done (says (r .answer)) (accountOf high low active (r .last))

@@ -1,0 +1,3 @@
+-- A lent account, the loops that take it in and hand it back, and that no second answer meets the promise.
+pub mod Lending
+pub mod LendingLaws

@@ -1,0 +1,119 @@
+// An account lent as three arrays and its last number, for callers who cannot hand one over by value.
+// Arrays of another length than 256 are no account: 40.
+ghost use mathlib.Core.Path.{_≡_};
+ghost use lib.ListN.{length};
+ghost use Rattle.places.specs.Places.{places};
+ghost use Rattle.entitlements.specs.Entitlements.{does, message};
+ghost use Rattle.lending.specs.Lending.{accountOf, lends, lending};
+use entitlements::Account;
+use entitlements::Answer;
+use entitlements::Answered;
+use entitlements::Kind;
+use places::PLACES;
+
+// What a message to a lent account is answered, and the last number afterwards; the arrays are as
+// afterwards too.
+pub struct Lent {
+    pub answer: Answer,
+    pub last: u64,
+}
+
+// A lent array by value.
+fn array_of(lent: &[u64]) -> [u64; PLACES]
+    requires { ⌜ length (now lent) ≡ places ⌝ }
+    ensures { λ r. ⌜ r ≡ now (lent .entry) ⌝ }
+{
+    let mut array = [0u64; PLACES];
+    let mut i = 0;
+    while i < PLACES {
+        array[i] = lent[i];
+        i += 1;
+    }
+    array
+}
+
+// A lent account by value.
+fn taken_in(high: &[u64], low: &[u64], active: &[u64], last: u64) -> Account
+    requires { ⌜ length (now high) ≡ places ⌝ }
+    requires { ⌜ length (now low) ≡ places ⌝ }
+    requires { ⌜ length (now active) ≡ places ⌝ }
+    ensures { λ r. ⌜ r ≡ accountOf (now (high .entry)) (now (low .entry)) (now (active .entry)) last ⌝ }
+{
+    let high = array_of(high);
+    let low = array_of(low);
+    let active = array_of(active);
+    Account {
+        high,
+        low,
+        active,
+        last,
+    }
+}
+
+// Hands an array back to whoever lent it.
+fn hand_back(lent: &mut [u64], array: [u64; PLACES])
+    requires { ⌜ length (now lent) ≡ places ⌝ }
+    requires { ⌜ length array ≡ places ⌝ }
+    ensures { λ _. ⌜ now (lent .exit) ≡ array ⌝ }
+{
+    let mut i = 0;
+    while i < PLACES {
+        lent[i] = array[i];
+        i += 1;
+    }
+}
+
+// A message of either kind, to an account by value.
+fn send(kind: Kind, account: Account, text: &[u8], number: u64) -> Answered
+    ensures { λ r. ⌜ does r ≡ message kind account (now (text .entry)) number ⌝ }
+{
+    match kind {
+        Kind::Activate => message::activate(account, text, number),
+        Kind::Cancel => message::cancel(account, text, number),
+    }
+}
+
+// Sends a message to a lent account, of any lengths.
+pub fn send_lent(
+    kind: Kind,
+    high: &mut [u64],
+    low: &mut [u64],
+    active: &mut [u64],
+    last: u64,
+    text: &[u8],
+    number: u64,
+) -> Lent
+    ensures { λ r. ⌜ lends r (now (high .exit)) (now (low .exit)) (now (active .exit)) ≡ lending kind (now (high .entry)) (now (low .entry)) (now (active .entry)) last (now (text .entry)) number ⌝ }
+{
+    if high.len() != PLACES {
+        return Lent {
+            answer: Answer::Account,
+            last,
+        };
+    }
+    if low.len() != PLACES {
+        return Lent {
+            answer: Answer::Account,
+            last,
+        };
+    }
+    if active.len() != PLACES {
+        return Lent {
+            answer: Answer::Account,
+            last,
+        };
+    }
+    let answered = send(kind, taken_in(high, low, active, last), text, number);
+    let answer = answered.answer;
+    let next = answered.account;
+    let kept = next.high;
+    hand_back(high, kept);
+    let kept = next.low;
+    hand_back(low, kept);
+    let kept = next.active;
+    hand_back(active, kept);
+    Lent {
+        answer,
+        last: next.last,
+    }
+}
