@@ -1,12 +1,9 @@
 -- The rows of a message's table, one by one: which applies, and what is done then. Assumes nothing.
 use Prim.Native.Nat.{ℕ, _≤_, _<_}
-use native.Mathlib.Omega.{arith}
-use mathlib.Core.Path.{_≡_, ap, _∙_}
-use mathlib.Core.Bool.{Bool, true, false, or-true}
+use mathlib.Core.Path.{_≡_, ap}
+use mathlib.Core.Bool.{or-true}
 use mathlib.Core.List.{List}
-use lib.Dec.{eqb}
 use borrow.Author.Tests.{eq-eqb, ne-eqb, lt-ltb, le-ltb, le-leb, lt-leb}
-use Rattle.facts.specs.Tests.{none-of}
 use Rattle.halves.specs.declared.Halves.{Halves}
 use Rattle.halves.specs.declared.Code.the-variants.{Read, Refused}
 use Rattle.halves.specs.Halves.{codeIn}
@@ -24,7 +21,6 @@ use Rattle.entitlements.specs.Entitlements.{
   cancelled,
   old,
   refusal,
-  Done,
   done,
   used,
   taken,
@@ -34,8 +30,6 @@ use Rattle.entitlements.specs.Entitlements.{
   acting,
   largest,
   processing,
-  noAccount,
-  message,
 }
 
 module _ (account : Account) (code : Halves) (number : ℕ) where
@@ -92,12 +86,3 @@ module _ (kind : Kind) (account : Account) (text : List ℕ) (number : ℕ) wher
     processing-acts e h =
         rw (ne-eqb number 0 some, le-ltb largest number most, code-read text e .0, lt-leb number (account .last) h)
         (ap (λ (code : Halves). acting kind account code number) (code-read text e .1))
-
-  -- 40, or what is processed
-  pub message-refused : noAccount account ≡ true → message kind account text number ≡ done (refusal 40) account
-  unfolding message
-  message-refused e = rw e
-
-  pub message-processed : noAccount account ≡ false → message kind account text number ≡ processing kind account text number
-  unfolding message
-  message-processed e = rw e

@@ -5,9 +5,12 @@ ghost use Prim.Native.Nat.{_<_};
 ghost use mathlib.Core.Path.{_≡_};
 ghost use Rattle.places.specs.Places.{places};
 ghost use Rattle.entitlements.specs.Entitlements.{
-    used, putAt, does, processing,
-    activation as Entitlements·activation,
-    cancellation as Entitlements·cancellation,
+  used,
+  putAt,
+  does,
+  processing,
+  activation as Entitlements·activation,
+  cancellation as Entitlements·cancellation,
 };
 use entitlements::Account;
 use entitlements::Answer;
