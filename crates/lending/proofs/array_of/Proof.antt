@@ -1,49 +1,48 @@
+-- `lending::array_of` meets its contract: the places below `i` are copied. Assumes nothing.
+use Prim.Native.Nat.{_-_}
+use mathlib.Core.Path.{refl}
+use borrow.Author.Needs.{needs}
+use Rattle.places.specs.Places.{places}
+use Rattle.lending.specs.LendingLaws.{Copied, copied-begin, copied-again, copied-end}
 use Rattle.lending.proofs.array_of.Statement.{statement}
 use Rattle.lending.proofs.array_of.Tie as tie
-use Rattle.lending.proofs.array_of.Reads as reads
-use Rattle.lending.proofs.array_of.Lts as lts
 
 abbrev Inv-loop : tie.InvT-loop
-Inv-loop lent array₀ i₀ array i = ?
+Inv-loop lent array₀ i₀ array i = Copied lent array i
 
 abbrev μ-loop : tie.MeasureT-loop
-μ-loop lent array₀ i₀ array i = ?
+μ-loop lent array₀ i₀ array i = places - i
 
--- src/lib.rt:28:5
 loop-holds : tie.Need-loop-holds Inv-loop μ-loop
-loop-holds c = ?
+loop-holds c = copied-begin (c .args .lent .now) (c .pre) _ refl
 
--- src/lib.rt:29:20
 mul-array : tie.Need-mul-array Inv-loop μ-loop
-mul-array c = ?
+mul-array c = search needs
 
--- src/lib.rt:29:20
 shared-slice-read-array : tie.Need-shared-slice-read-array Inv-loop μ-loop
-shared-slice-read-array c = ?
+shared-slice-read-array c = search needs
 
--- src/lib.rt:29:9
 mul-array-2 : tie.Need-mul-array-2 Inv-loop μ-loop
-mul-array-2 c = ?
+mul-array-2 c = search needs
 
--- src/lib.rt:29:9
 array-write-array : tie.Need-array-write-array Inv-loop μ-loop
-array-write-array c = ?
+array-write-array c = search needs
 
--- src/lib.rt:30:9
 add-i : tie.Need-add-i Inv-loop μ-loop
-add-i c = ?
+add-i c = search needs
 
--- src/lib.rt:28:5
 loop-less : tie.Need-loop-less Inv-loop μ-loop
-loop-less c = ?
+loop-less c = search needs
 
--- src/lib.rt:28:5
 loop-again : tie.Need-loop-again Inv-loop μ-loop
-loop-again c = ?
+loop-again c =
+    let start = c .before .before .before in
+    copied-again (start .args .lent .now) (start .pre) (c .before .before .loop .inv) (search needs)
 
--- src/lib.rt:22:1
 returns : tie.Need-returns Inv-loop μ-loop
-returns c = ?
+returns c =
+    let start = c .before .before in
+    copied-end (start .args .lent .now) (start .pre) (c .before .loop .inv) (search needs)
 
 pub array-of-spec : {M : Type 1} → statement M
 array-of-spec =

@@ -1,53 +1,50 @@
+-- `lending::hand_back` meets its contract: the places below `i` are copied. Assumes nothing.
+use Prim.Native.Nat.{_-_}
+use borrow.Author.Needs.{needs}
+use Rattle.places.specs.Places.{places}
+use Rattle.lending.specs.LendingLaws.{Copied, copied-begin, copied-again, copied-end}
 use Rattle.lending.proofs.hand_back.Statement.{statement}
 use Rattle.lending.proofs.hand_back.Tie as tie
-use Rattle.lending.proofs.hand_back.Reads as reads
-use Rattle.lending.proofs.hand_back.Lts as lts
 
 abbrev Inv-loop : tie.InvT-loop
-Inv-loop lent₀ array i₀ lent i = ?
+Inv-loop lent₀ array i₀ lent i = Copied array lent i
 
 abbrev μ-loop : tie.MeasureT-loop
-μ-loop lent₀ array i₀ lent i = ?
+μ-loop lent₀ array i₀ lent i = places - i
 
--- src/lib.rt:41:5
 loop-holds : tie.Need-loop-holds Inv-loop μ-loop
-loop-holds c = ?
+loop-holds c = copied-begin (c .args .t2) (c .pre .1) (c .args .lent .now) (c .pre .0)
 
--- src/lib.rt:42:19
 mul-lent : tie.Need-mul-lent Inv-loop μ-loop
-mul-lent c = ?
+mul-lent c = search needs
 
--- src/lib.rt:42:19
 array-read-lent : tie.Need-array-read-lent Inv-loop μ-loop
-array-read-lent c = ?
+array-read-lent c = search needs
 
--- src/lib.rt:42:9
 mul-lent-2 : tie.Need-mul-lent-2 Inv-loop μ-loop
-mul-lent-2 c = ?
+mul-lent-2 c = search needs
 
--- src/lib.rt:42:9
 slice-write-lent : tie.Need-slice-write-lent Inv-loop μ-loop
-slice-write-lent c = ?
+slice-write-lent c = search needs
 
--- src/lib.rt:43:9
 add-i : tie.Need-add-i Inv-loop μ-loop
-add-i c = ?
+add-i c = search needs
 
--- src/lib.rt:41:5
 loop-less : tie.Need-loop-less Inv-loop μ-loop
-loop-less c = ?
+loop-less c = search needs
 
--- src/lib.rt:41:5
 loop-again : tie.Need-loop-again Inv-loop μ-loop
-loop-again c = ?
+loop-again c =
+    let start = c .before .before in
+    copied-again (start .args .t2) (start .pre .1) (c .before .loop .inv) (search needs)
 
--- src/lib.rt:36:1
 same-length : tie.Need-same-length Inv-loop μ-loop
-same-length c = ?
+same-length c = search needs
 
--- src/lib.rt:36:1
 returns : tie.Need-returns Inv-loop μ-loop
-returns c = ?
+returns c =
+    let start = c .before .before in
+    copied-end (start .args .t2) (start .pre .1) (c .before .loop .inv) (search needs)
 
 pub hand-back-spec : {M : Type 1} → statement M
 hand-back-spec =

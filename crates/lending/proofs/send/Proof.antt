@@ -1,34 +1,34 @@
+-- `lending::send` meets its contract, by the kind of the message. Assumes nothing.
+use mathlib.Core.Path.{ap, sym, _∙_}
 use borrow.Author.Needs.{needs}
+use Rattle.entitlements.specs.declared.Kind.{Kind}
+use Rattle.entitlements.specs.Entitlements.{message}
 use Rattle.lending.proofs.send.Statement.{statement}
 use Rattle.lending.proofs.send.Tie as tie
-use Rattle.lending.proofs.send.Reads as reads
-use Rattle.lending.proofs.send.Lts as lts
-use Rattle.message.proofs.activate.Reads as activate-reads
-use Rattle.message.proofs.cancel.Reads as cancel-reads
 
--- src/lib.rt:52:27
 enum-told : tie.Need-enum-told
 enum-told c = search needs
 
--- src/lib.rt:52:27
 activate-requires : tie.Need-activate-requires
 activate-requires c κs = search needs
 
--- src/lib.rt:53:25
 enum-told-2 : tie.Need-enum-told-2
 enum-told-2 c = search needs
 
--- src/lib.rt:53:25
 cancel-requires : tie.Need-cancel-requires
 cancel-requires c κs = search needs
 
--- src/lib.rt:48:1
 returns : tie.Need-returns
-returns c = ?
+returns c =
+    let asked = c .before .before .before .before .args in
+    c .activate .ensures
+    ∙ ap (λ (kind : Kind). message kind (asked .account) (asked .text .now) (asked .number)) (sym (c .before .enum-told .given .1))
 
--- src/lib.rt:48:1
 returns-2 : tie.Need-returns-2
-returns-2 c = ?
+returns-2 c =
+    let asked = c .before .before .before .before .args in
+    c .cancel .ensures
+    ∙ ap (λ (kind : Kind). message kind (asked .account) (asked .text .now) (asked .number)) (sym (c .before .enum-told2 .given .1))
 
 pub send-spec : {M : Type 1} → statement M
 send-spec =
