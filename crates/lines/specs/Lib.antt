@@ -1,6 +1,8 @@
 -- What the contracts of `lines` and of the crates above it cite: the page's definitions, a line that comes in, and the laws of both.
 pub mod Lines
 pub mod LinesLaws
+pub mod Answers
+pub mod AnswersLaws
 pub mod Automaton
 pub mod AutomatonLaws
 pub mod ReplyLaws
