@@ -8,4 +8,6 @@ pub mod AutomatonLaws
 pub mod ReplyLaws
 pub mod Starts
 pub mod StartsLaws
+pub mod Messages
+pub mod MessagesLaws
 pub mod Examples
