@@ -6,31 +6,31 @@ use mathlib.Core.Bool.{true, false}
 use mathlib.Core.List.{[], _∷_, map}
 use lib.ListN.{replicate}
 use Rattle.facts.specs.Texts.{bytes}
-use Rattle.lines.specs.Lines.{cut, valueAfter, isNumber, unit, notOfThisForm, form, linesOf, spelling, coded, refused}
+use Rattle.lines.specs.Lines.{cut, valueAfter, isWithin, isNumber, unit, notOfThisForm, form, linesOf, spelling, coded, refused}
 use Rattle.lines.specs.Lines.{replyLine, lineSaid, replies, outputOf}
 
 -- numbers, and what is none
 numbers : map isNumber (bytes "0" ∷ bytes "7" ∷ bytes "10" ∷ bytes "4294967295" ∷ []) ≡ true ∷ true ∷ true ∷ true ∷ []
-unfolding isNumber valueAfter
+unfolding isWithin valueAfter
 numbers = refl
 
 no-numbers : map isNumber (bytes "" ∷ bytes "00" ∷ bytes "01" ∷ bytes "4294967296" ∷ bytes "10000000000" ∷ bytes "-1" ∷ bytes "1x" ∷ [])
     ≡ replicate 7 false
-unfolding isNumber valueAfter
+unfolding isWithin valueAfter
 no-numbers = refl
 
 -- the page's first line, a line with no coordinates, and lines not of this form
 page-line : form (bytes "F 0 0 0 0 960 32 960 32 0") ≡ unit 70 0 (0 ∷ 0 ∷ 0 ∷ 960 ∷ 32 ∷ 960 ∷ 32 ∷ 0 ∷ [])
-unfolding form cut isNumber valueAfter
+unfolding form cut isWithin valueAfter
 page-line = refl
 
 no-coordinates : form (bytes "B 12") ≡ unit 66 12 []
-unfolding form cut isNumber valueAfter
+unfolding form cut isWithin valueAfter
 no-coordinates = refl
 
 other-lines : map form (bytes "" ∷ bytes "B" ∷ bytes "B " ∷ bytes "B 1 " ∷ bytes "B  1" ∷ bytes "b 1" ∷ bytes "BF 1" ∷ bytes " B 1" ∷ [])
     ≡ replicate 8 notOfThisForm
-unfolding form cut isNumber valueAfter
+unfolding form cut isWithin valueAfter
 other-lines = refl
 
 -- the lines of an input
@@ -61,5 +61,5 @@ long-number = refl
 
 -- a whole output, where every unit is refused 3 at the place of its own number
 whole-output : outputOf (lineSaid (λ kind number coordinates. refused 3 number)) (bytes "F 0\n\nB 7") ≡ bytes "1 refused 3 0\n2 refused 9 0\n3 refused 3 7\n"
-unfolding outputOf replies lineSaid linesOf cut form isNumber valueAfter replyLine spelling
+unfolding outputOf replies lineSaid linesOf cut form isWithin valueAfter replyLine spelling
 whole-output = refl

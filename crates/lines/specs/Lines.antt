@@ -40,9 +40,13 @@ value word = valueAfter 0 word
 abbrev pub zeroLeads : List ℕ → Bool
 zeroLeads word = ltb 1 (length word) && eqb (getD word 0 0) (code "0")
 
+-- decimal, 1 to `digits` digits, at most `most`, no leading zero but in `0`
+unfoldable pub isWithin : ℕ → ℕ → List ℕ → Bool
+isWithin digits most word = every isDigit word && (leb 1 (length word) && leb (length word) digits) && leb (value word) most && not (zeroLeads word)
+
 -- decimal, 1 to 10 digits, at most 4,294,967,295, no leading zero but in `0`
-unfoldable pub isNumber : List ℕ → Bool
-isNumber word = every isDigit word && (leb 1 (length word) && leb (length word) 10) && leb (value word) 4294967295 && not (zeroLeads word)
+abbrev pub isNumber : List ℕ → Bool
+isNumber word = isWithin 10 4294967295 word
 
 -- ---- "Standard input, a unit a line: `B` or `F` (building, other), a space, the number, then coordinates, each after one space."
 

@@ -8,7 +8,8 @@ use lib.ListN.{length, take, length-append}
 use lib.Dec.{ltb, eqb}
 use Rattle.facts.specs.Texts.{bytes}
 use Rattle.lines.specs.Lines.{Form, unit, notOfThisForm, form, formSaid, Coding, Reply, refused, saying, spelling, decimal, longest, lineSaid, replyLine}
-use Rattle.lines.specs.Automaton.{Coming, next, more, reply, ended, last}
+use Rattle.lines.specs.Answers.{Answering}
+use Rattle.lines.specs.Automaton.{Coming, more, answer, reply, next, ended, last}
 
 -- a number of so many digits at most
 spelling-short : (count n : ℕ) → length (spelling count n) ≤ count
@@ -54,38 +55,38 @@ line-short coding short line = pick (ltb longest (length line)) (form line)
     pick false (unit kind number coordinates) = short kind number coordinates
     pick false notOfThisForm = refusal-short 9 0
 
--- the replies to lines of which short things are said
-module _ (said : List ℕ → Reply) (short : (line : List ℕ) → Short (said line)) where
-  reply-short : (line : Coming) → length (reply said line) ≤ replyMost
+-- the replies to lines of which short things are said in every state
+module _ {S : Type 0} (says : Answering S) (short : (s : S) (line : List ℕ) → Short (says s line .reply)) where
+  reply-short : (line : Coming S) → length (reply says line) ≤ replyMost
   unfolding replyLine
   reply-short line =
-      let this : Reply = said (take (line .len) (line .room)) in
+      let this : Reply = answer says line .reply in
       omega (
         arith,
         length-append (decimal (line .number) ++ bytes " " ++ saying this) (bytes "\n"),
         length-append (decimal (line .number) ++ bytes " ") (saying this),
         length-append (decimal (line .number)) (bytes " "),
         spelling-short 20 (line .number),
-        short (take (line .len) (line .room)),
+        short (line .state) (take (line .len) (line .room)),
       )
 
   -- a read's are at most so long for each of its bytes
-  abbrev EndedShort : Coming → List ℕ → Type 0
-  EndedShort line bytes = length (ended said line bytes) ≤ length bytes * replyMost
+  abbrev EndedShort : Coming S → List ℕ → Type 0
+  EndedShort line bytes = length (ended says line bytes) ≤ length bytes * replyMost
 
-  pub ended-short : (line : Coming) (bytes : List ℕ) → length (ended said line bytes) ≤ length bytes * replyMost
+  pub ended-short : (line : Coming S) (bytes : List ℕ) → length (ended says line bytes) ≤ length bytes * replyMost
   unfolding ended
   ended-short line [] = omega arith
-  ended-short line (b ∷ bytes) = pick (ended-short (next line) bytes) (ended-short (more b line) bytes) (eqb b 10) refl
+  ended-short line (b ∷ bytes) = pick (ended-short (next says line) bytes) (ended-short (more b line) bytes) (eqb b 10) refl
     where
-      pick : EndedShort (next line) bytes → EndedShort (more b line) bytes → (e : Bool) → eqb b 10 ≡ e → EndedShort line (b ∷ bytes)
-      pick fed grew true e = rw e (omega (arith, length-append (reply said line) (ended said (next line) bytes), reply-short line, fed))
+      pick : EndedShort (next says line) bytes → EndedShort (more b line) bytes → (e : Bool) → eqb b 10 ≡ e → EndedShort line (b ∷ bytes)
+      pick fed grew true e = rw e (omega (arith, length-append (reply says line) (ended says (next says line) bytes), reply-short line, fed))
       pick fed grew false e = rw e (omega (arith, grew))
 
-  pub last-short : (line : Coming) → length (last said line) ≤ replyMost
+  pub last-short : (line : Coming S) → length (last says line) ≤ replyMost
   unfolding last
   last-short line = pick (eqb (line .len) 0)
     where
-      pick : (e : Bool) → length (cond e [] (reply said line)) ≤ replyMost
+      pick : (e : Bool) → length (cond e [] (reply says line)) ≤ replyMost
       pick true = omega arith
       pick false = reply-short line

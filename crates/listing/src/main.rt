@@ -8,10 +8,11 @@ ghost use Prim.Native.Nat.{_*_, _≤_, _<_};
 ghost use mathlib.Core.Path.{_≡_};
 ghost use lib.ListN.{length};
 ghost use Rattle.lines.specs.Lines.{longest};
+ghost use Rattle.lines.specs.Answers.{always};
 ghost use Rattle.lines.specs.Automaton.{after, ended, last};
 ghost use Rattle.lines.specs.ReplyLaws.{replyMost};
+ghost use Rattle.output.specs.Written.{Starts};
 ghost use Rattle.register.specs.Said.{said, coming};
-ghost use Rattle.register.specs.Whole.{Starts};
 use libc::STDIN_FILENO;
 use libc::STDOUT_FILENO;
 use register::Line;
@@ -63,8 +64,8 @@ fn list(input: &mut [u8], room: &mut [u8], output: &mut [u8])
 // The replies to the lines that end in the bytes of a read, all of them, at the start of the output.
 fn reply_all(line: Line, bytes: &[u8], room: &mut [u8], output: &mut [u8]) -> Listed
     requires { ⌜ length (now bytes) * replyMost ≤ length (now output) ⌝ }
-    ensures { λ r. ⌜ coming (r .line) (now (room .exit)) ≡ after (coming line (now (room .entry))) (now (bytes .entry)) ⌝ }
-    ensures { λ r. ⌜ Starts (now (output .exit)) (r .put) (ended said (coming line (now (room .entry))) (now (bytes .entry))) ⌝ }
+    ensures { λ r. ⌜ coming (r .line) (now (room .exit)) ≡ after (always said) (coming line (now (room .entry))) (now (bytes .entry)) ⌝ }
+    ensures { λ r. ⌜ Starts (now (output .exit)) (r .put) (ended (always said) (coming line (now (room .entry))) (now (bytes .entry))) ⌝ }
 {
     register::reply_all(line, bytes, room, output)
 }
@@ -72,7 +73,7 @@ fn reply_all(line: Line, bytes: &[u8], room: &mut [u8], output: &mut [u8]) -> Li
 // The reply to a last line without line feed, whole, at the start of the output.
 fn reply_last(line: Line, room: &[u8], output: &mut [u8]) -> usize
     requires { ⌜ replyMost ≤ length (now output) ⌝ }
-    ensures { λ r. ⌜ Starts (now (output .exit)) r (last said (coming line (now (room .entry)))) ⌝ }
+    ensures { λ r. ⌜ Starts (now (output .exit)) r (last (always said) (coming line (now (room .entry)))) ⌝ }
 {
     register::reply_last(line, room, output)
 }

@@ -1,16 +1,26 @@
 // The numbers of a line: document 01, "Numbers are decimal, 1 to 10 digits, at most 4,294,967,295, no
-// leading zero but in `0`."
+// leading zero but in `0`." Message numbers are the same with 64 bits.
 mod word;
 
 ghost use mathlib.Core.Path.{_≡_};
 ghost use lib.ListN.{drop, set};
 ghost use Rattle.room.specs.Room.{putAt};
-ghost use Rattle.numbers.specs.Numbers.{numberAt, countIn, leadingIn};
+ghost use Rattle.numbers.specs.Numbers.{withinAt, numberAt, longAt, countIn, leadingIn};
 use word::Word;
+
+const LARGEST: u64 = 4294967295;
+
+const LARGEST_LONG: u64 = 18446744073709551615;
 
 // A number of a line, with the position just after its last digit; or none.
 pub enum Number {
     At(u32, usize),
+    Bad,
+}
+
+// A number of 64 bits, likewise.
+pub enum Long {
+    At(u64, usize),
     Bad,
 }
 
@@ -25,14 +35,32 @@ pub enum Numbers {
 pub fn number_at(line: &[u8], at: usize) -> Number
     ensures { λ r. ⌜ r ≡ numberAt (now (line .entry)) at ⌝ }
 {
+    let found = within_at(line, at, 10, LARGEST);
+    match found {
+        Long::At(value, end) => Number::At(value as u32, end),
+        Long::Bad => Number::Bad,
+    }
+}
+
+// The same for a number of 64 bits: at most 18,446,744,073,709,551,615.
+pub fn long_at(line: &[u8], at: usize) -> Long
+    ensures { λ r. ⌜ r ≡ longAt (now (line .entry)) at ⌝ }
+{
+    within_at(line, at, 20, LARGEST_LONG)
+}
+
+// The same for a number of at most so many digits, and at most `most`.
+fn within_at(line: &[u8], at: usize, digits: usize, most: u64) -> Long
+    ensures { λ r. ⌜ r ≡ withinAt digits most (now (line .entry)) at ⌝ }
+{
     let end = word::word_end(line, at);
     if line.len() < end {
-        return Number::Bad;
+        return Long::Bad;
     }
-    let word = word::word_value(&line[at..end]);
+    let word = word::word_value(&line[at..end], digits, most);
     match word {
-        Word::Value(value) => Number::At(value, end),
-        Word::Other => Number::Bad,
+        Word::Value(value) => Long::At(value, end),
+        Word::Other => Long::Bad,
     }
 }
 

@@ -1,16 +1,15 @@
 // A word of a line: where it ends, and its value where it is a number.
-ghost use Prim.Native.Nat.{_+_};
+ghost use Prim.Native.Nat.{_+_, _*_, _≤_};
 ghost use mathlib.Core.Path.{_≡_};
+ghost use lib.Dec.{ltb};
 ghost use lib.ListN.{length, drop};
 ghost use Rattle.numbers.specs.Numbers.{word as Numbers·word, digitsAfter, wordOf};
 
 // What a word is: a number, by its value, or something else.
 pub(crate) enum Word {
-    Value(u32),
+    Value(u64),
     Other,
 }
-
-const LARGEST: u64 = 4294967295;
 
 // The position of the first space from a position on, or the line's end.
 pub(crate) fn word_end(line: &[u8], at: usize) -> usize
@@ -26,44 +25,61 @@ pub(crate) fn word_end(line: &[u8], at: usize) -> usize
     i
 }
 
-// The value of a word: 1 to 10 digits, at most LARGEST, no leading zero but in `0`.
-pub(crate) fn word_value(word: &[u8]) -> Word
-    ensures { λ r. ⌜ r ≡ wordOf (now (word .entry)) ⌝ }
+// The value of a word: 1 to `count` digits, at most `most`, no leading zero but in `0`.
+pub(crate) fn word_value(word: &[u8], count: usize, most: u64) -> Word
+    ensures { λ r. ⌜ r ≡ wordOf count most (now (word .entry)) ⌝ }
 {
     if word.len() < 1 {
         return Word::Other;
     }
-    if word.len() > 10 {
+    if word.len() > count {
         return Word::Other;
     }
     if word.len() == 1 {
-        return digits(word);
+        return digits(word, most);
     }
     if word[0] == b'0' {
         return Word::Other;
     }
-    digits(word)
+    digits(word, most)
 }
 
-// The value of any count of digits that is at most LARGEST.
-fn digits(word: &[u8]) -> Word
-    ensures { λ r. ⌜ r ≡ digitsAfter 0 (now (word .entry)) ⌝ }
+// The value of any count of digits that is at most `most`.
+fn digits(word: &[u8], most: u64) -> Word
+    ensures { λ r. ⌜ r ≡ digitsAfter most 0 (now (word .entry)) ⌝ }
 {
     let mut value: u64 = 0;
     let mut i = 0;
     while i < word.len() {
-        let digit = word[i];
-        if digit < b'0' {
+        let byte = word[i];
+        if byte < b'0' {
             return Word::Other;
         }
-        if digit > b'9' {
+        if byte > b'9' {
             return Word::Other;
         }
-        value = 10 * value + (digit - b'0') as u64;
-        if value > LARGEST {
+        let digit = (byte - b'0') as u64;
+        if above(value, digit, most) {
             return Word::Other;
         }
+        value = 10 * value + digit;
         i += 1;
     }
-    Word::Value(value as u32)
+    Word::Value(value)
+}
+
+// Whether a digit after a value makes a number above `most`, which may be too large for 64 bits. Most
+// digits come after less than a tenth of it.
+fn above(value: u64, digit: u64, most: u64) -> bool
+    requires { ⌜ digit ≤ 9 ⌝ }
+    ensures { λ r. ⌜ r ≡ ltb most (10 * value + digit) ⌝ }
+{
+    let tenth = most / 10;
+    if value < tenth {
+        return false;
+    }
+    if value > tenth {
+        return true;
+    }
+    digit > most % 10
 }

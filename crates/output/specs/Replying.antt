@@ -10,6 +10,7 @@ use Rattle.room.specs.Room.{Put}
 use Rattle.room.specs.RoomLaws.{put-nothing, put-then, put-four}
 use Rattle.facts.specs.Texts.{bytes}
 use Rattle.lines.specs.Lines.{Reply, decimal, saying, replyLine}
+use Rattle.lines.specs.Answers.{Answering}
 use Rattle.lines.specs.Automaton.{Coming, after, ended}
 use Rattle.lines.specs.AutomatonLaws.{after-append, ended-append}
 
@@ -20,39 +21,39 @@ unfolding replyLine
 put-reply number said = put-four
 
 -- the bytes before the position i are taken, and the replies in them put
-pub record Replying (said : List ℕ → Reply) (start : Coming) (bytes lent : List ℕ) (line : Coming) (out : List ℕ) (put i : ℕ) : Type 0 where
+pub record Replying {S : Type 0} (says : Answering S) (start : Coming S) (bytes lent : List ℕ) (line : Coming S) (out : List ℕ) (put i : ℕ) : Type 0 where
   pub done : List ℕ
-  pub comes : after start bytes ≡ after line (drop i bytes)
-  pub whole : ended said start bytes ≡ done ++ ended said line (drop i bytes)
+  pub comes : after says start bytes ≡ after says line (drop i bytes)
+  pub whole : ended says start bytes ≡ done ++ ended says line (drop i bytes)
   pub filled : Put lent 0 done put out
 
-pub replying-begin : (said : List ℕ → Reply) (start : Coming) (bytes lent : List ℕ) → Replying said start bytes lent start lent 0 0
-replying-begin said start bytes lent = record { done = []; comes = refl; whole = refl; filled = put-nothing lent 0 }
+pub replying-begin : {S : Type 0} (says : Answering S) (start : Coming S) (bytes lent : List ℕ) → Replying says start bytes lent start lent 0 0
+replying-begin says start bytes lent = record { done = []; comes = refl; whole = refl; filled = put-nothing lent 0 }
 
-module _ {said : List ℕ → Reply} {start : Coming} {bytes lent : List ℕ} {line : Coming} {out : List ℕ} {put i : ℕ}
-    (so : Replying said start bytes lent line out put i) where
+module _ {S : Type 0} {says : Answering S} {start : Coming S} {bytes lent : List ℕ} {line : Coming S} {out : List ℕ} {put i : ℕ}
+    (so : Replying says start bytes lent line out put i) where
   -- a byte further
-  pub replying-step : {further : Coming} {end : ℕ} {later : List ℕ} → i < length bytes → further ≡ after line (getD bytes i 0 ∷ [])
-      → Put out put (ended said line (getD bytes i 0 ∷ [])) end later → Replying said start bytes lent further later end (i + 1)
+  pub replying-step : {further : Coming S} {end : ℕ} {later : List ℕ} → i < length bytes → further ≡ after says line (getD bytes i 0 ∷ [])
+      → Put out put (ended says line (getD bytes i 0 ∷ [])) end later → Replying says start bytes lent further later end (i + 1)
   replying-step h e puts =
       let b : ℕ = getD bytes i 0 in
       let rest : List ℕ = drop (i + 1) bytes in
       let here : drop i bytes ≡ b ∷ rest = drop-cons bytes i 0 h ∙ ap (λ (k : ℕ). b ∷ drop k bytes) (sym (add-one i)) in
       record {
-        done = so .done ++ ended said line (b ∷ []);
-        comes = so .comes ∙ ap (after line) here ∙ after-append said line (b ∷ []) rest ∙ ap (λ (l : Coming). after l rest) (sym e);
+        done = so .done ++ ended says line (b ∷ []);
+        comes = so .comes ∙ ap (after says line) here ∙ after-append says line (b ∷ []) rest ∙ ap (λ (l : Coming S). after says l rest) (sym e);
         whole =
             so .whole
-            ∙ ap (λ (t : List ℕ). so .done ++ ended said line t) here
-            ∙ ap (λ (t : List ℕ). so .done ++ t) (ended-append said line (b ∷ []) rest)
-            ∙ sym (append-assoc (so .done) (ended said line (b ∷ [])) (ended said (after line (b ∷ [])) rest))
-            ∙ ap (λ (l : Coming). so .done ++ ended said line (b ∷ []) ++ ended said l rest) (sym e);
+            ∙ ap (λ (t : List ℕ). so .done ++ ended says line t) here
+            ∙ ap (λ (t : List ℕ). so .done ++ t) (ended-append says line (b ∷ []) rest)
+            ∙ sym (append-assoc (so .done) (ended says line (b ∷ [])) (ended says (after says line (b ∷ [])) rest))
+            ∙ ap (λ (l : Coming S). so .done ++ ended says line (b ∷ []) ++ ended says l rest) (sym e);
         filled = put-then (so .filled) puts;
       }
 
   -- past the bytes' end
-  pub replying-end : length bytes ≤ i → (line ≡ after start bytes) × Put lent 0 (ended said start bytes) put out
+  pub replying-end : length bytes ≤ i → (line ≡ after says start bytes) × Put lent 0 (ended says start bytes) put out
   unfolding after ended
   replying-end h =
       let none = drop-of-length-le bytes h in
-      (sym (so .comes ∙ ap (after line) none), rw (so .whole, none, append-nil (so .done)) (so .filled))
+      (sym (so .comes ∙ ap (after says line) none), rw (so .whole, none, append-nil (so .done)) (so .filled))

@@ -13,14 +13,14 @@ abbrev listedBy : ℕ → ℕ → ℕ → Listed
 listedBy number len put = record { line = record { number = number; len = len }; put = put }
 
 -- Two answers, rooms and outputs that meet the promises of `reply_all` are the same
-pub listed-once : (comes : Coming) (lent text : List ℕ) (a b : Listed) (room other out later : List ℕ) → coming (a .line) room ≡ comes
+pub listed-once : (comes : Coming (Unit {0})) (lent text : List ℕ) (a b : Listed) (room other out later : List ℕ) → coming (a .line) room ≡ comes
     → coming (b .line) other ≡ comes → Put lent 0 text (a .put) out → Put lent 0 text (b .put) later → (a ≡ b) × (room ≡ other) × (out ≡ later)
 listed-once comes lent text a b room other out later e k p q =
     let same = e ∙ sym k in
     let put = put-only p q in
-    let line : a .line ≡ b .line = ap (λ (l : Coming). listedBy (l .number) (l .len) 0 .line) same in (
+    let line : a .line ≡ b .line = ap (λ (l : Coming (Unit {0})). listedBy (l .number) (l .len) 0 .line) same in (
       ap (λ (l : Line). listedBy (l .number) (l .len) (a .put)) line ∙ ap (listedBy (b .line .number) (b .line .len)) (put .0),
-      ap (λ (l : Coming). l .room) same,
+      ap (λ (l : Coming (Unit {0})). l .room) same,
       put .1,
     )
 

@@ -17,7 +17,7 @@ use Rattle.corners.specs.Corners.{cornersOf}
 use Rattle.unit.specs.Extents.{extremesOf}
 use Rattle.chosen.specs.Chosen.{choose}
 use Rattle.unit.specs.Unit.{scaleOf, fieldsAt, levelOf, fieldsOf, cornerChecks, coding, kindOf}
-use Rattle.lines.specs.Lines.{cut, valueAfter, isNumber, form, linesOf, spelling, replyLine, lineSaid, replies, outputOf}
+use Rattle.lines.specs.Lines.{cut, valueAfter, isWithin, form, linesOf, spelling, replyLine, lineSaid, replies, outputOf}
 use Rattle.register.specs.Said.{codeSaid, said}
 
 page : outputOf said (bytes "F 0 0 0 0 960 32 960 32 0\nF 0 0 0 0 961 32 961 32 0\n\nB 0 0 0 0 960 32 960 32 0\n")
@@ -60,7 +60,7 @@ unfolding sizeOf
     kindOf
     cut
     valueAfter
-    isNumber
+    isWithin
     form
     linesOf
     spelling

@@ -23,6 +23,6 @@ codeSaid letter number coordinates = replyOf (coding (replicate 20 0) coordinate
 abbrev pub said : List ℕ → Reply
 said = lineSaid codeSaid
 
--- the line that comes in, with the room that its bytes stand in
-abbrev pub coming : Line → List ℕ → Coming
-coming line room = record { number = line .number; len = line .len; room = room }
+-- the line that comes in, with the room that its bytes stand in; no state goes on from line to line
+abbrev pub coming : Line → List ℕ → Coming (Unit {0})
+coming line room = record { number = line .number; len = line .len; room = room; state = tt }

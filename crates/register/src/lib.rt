@@ -11,6 +11,7 @@ ghost use mathlib.Core.List.{[], _∷_};
 ghost use lib.ListN.{length};
 ghost use Rattle.room.specs.Room.{Put};
 ghost use Rattle.lines.specs.Lines.{longest};
+ghost use Rattle.lines.specs.Answers.{always};
 ghost use Rattle.lines.specs.Automaton.{after, ended, last};
 ghost use Rattle.register.specs.Said.{said, coming};
 
@@ -32,8 +33,8 @@ pub struct Listed {
 // Puts the replies to the lines that end in the bytes of a read into the output, as much as fits: a
 // line's number, its code or its refusal. The rest of the bytes stays in the room.
 pub fn reply_all(line: Line, bytes: &[u8], room: &mut [u8], out: &mut [u8]) -> Listed
-    ensures { λ r. ⌜ coming (r .line) (now (room .exit)) ≡ after (coming line (now (room .entry))) (now (bytes .entry)) ⌝ }
-    ensures { λ r. ⌜ Put (now (out .entry)) 0 (ended said (coming line (now (room .entry))) (now (bytes .entry))) (r .put) (now (out .exit)) ⌝ }
+    ensures { λ r. ⌜ coming (r .line) (now (room .exit)) ≡ after (always said) (coming line (now (room .entry))) (now (bytes .entry)) ⌝ }
+    ensures { λ r. ⌜ Put (now (out .entry)) 0 (ended (always said) (coming line (now (room .entry))) (now (bytes .entry))) (r .put) (now (out .exit)) ⌝ }
 {
     let mut space = [0u32; reply::MOST];
     let coordinates: &mut [u32] = &mut space;
@@ -56,8 +57,8 @@ fn take_byte(
     at: usize,
 ) -> Listed
     requires { ⌜ longest ≤ 2 * length (now coordinates) ⌝ }
-    ensures { λ r. ⌜ coming (r .line) (now (room .exit)) ≡ after (coming line (now (room .entry))) (byte ∷ []) ⌝ }
-    ensures { λ r. ⌜ Put (now (out .entry)) at (ended said (coming line (now (room .entry))) (byte ∷ [])) (r .put) (now (out .exit)) ⌝ }
+    ensures { λ r. ⌜ coming (r .line) (now (room .exit)) ≡ after (always said) (coming line (now (room .entry))) (byte ∷ []) ⌝ }
+    ensures { λ r. ⌜ Put (now (out .entry)) at (ended (always said) (coming line (now (room .entry))) (byte ∷ [])) (r .put) (now (out .exit)) ⌝ }
 {
     if byte == b'\n' {
         let put = reply::reply_held(line.number, room, line.len, coordinates, out, at);
@@ -80,7 +81,7 @@ fn take_byte(
 // Puts the reply to a last line that has no line feed; there is none after a line feed that ends the
 // input.
 pub fn reply_last(line: Line, room: &[u8], out: &mut [u8]) -> usize
-    ensures { λ r. ⌜ Put (now (out .entry)) 0 (last said (coming line (now (room .entry)))) r (now (out .exit)) ⌝ }
+    ensures { λ r. ⌜ Put (now (out .entry)) 0 (last (always said) (coming line (now (room .entry)))) r (now (out .exit)) ⌝ }
 {
     if line.len == 0 {
         return 0;

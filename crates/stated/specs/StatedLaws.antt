@@ -12,10 +12,10 @@ use Rattle.facts.specs.Tests.{both}
 use Rattle.facts.specs.Lists.{every}
 use Rattle.room.specs.Room.{putAt}
 use Rattle.room.specs.RoomLaws.{length-put, put-held}
-use Rattle.lines.specs.Lines.{Form, unit, notOfThisForm, formSaid, Coding, refused, longest, lineSaid, isKind, isNumber, value, cut, longer, form, formOf}
+use Rattle.lines.specs.Lines.{Form, unit, notOfThisForm, formSaid, Coding, refused, longest, lineSaid, isKind, isWithin, isNumber, value, cut, longer, form, formOf}
 use Rattle.lines.specs.LinesLaws.{said-form}
 use Rattle.lines.specs.Starts.{startsWith}
-use Rattle.numbers.specs.Numbers.{word, wordAt, numberAt, countIn, leading, leadingIn}
+use Rattle.numbers.specs.Numbers.{word, numberAt, countIn, leading, leadingIn}
 use Rattle.numbers.specs.NumbersLaws.{wordsAfter, cut-word, cut-found, found, missed}
 use Rattle.numbers.specs.declared.Number.the-variants.{At, Bad}
 use Rattle.numbers.specs.declared.Numbers.the-variants.{Count, Bad as Bad·s}
@@ -143,7 +143,7 @@ cut-spread (x ∷ text) = pick (cut-spread text) (eqb x 32) refl
 
 -- a number has a digit
 numbers-spread : (words : List (List ℕ)) → every isNumber words ≡ true → 2 * length words ≤ spread words
-unfolding isNumber spread
+unfolding isWithin spread
 numbers-spread [] h = omega arith
 numbers-spread ([] ∷ words) h = let z : _≡_ {A = ℕ} 0 1 = cc in absurd (omega arith)
 numbers-spread ((b ∷ w) ∷ words) h = omega (arith, numbers-spread words (both (isNumber (b ∷ w)) (every isNumber words) h .1))

@@ -1,6 +1,8 @@
 -- `listing::reply_all` meets its contract: replies have at most 71 bytes for each byte of a read. Assumes nothing.
-use Rattle.register.specs.Said.{coming}
-use Rattle.register.specs.Whole.{all-written}
+use Rattle.lines.specs.Answers.{always}
+use Rattle.output.specs.Written.{ended-written}
+use Rattle.register.specs.Said.{said, coming}
+use Rattle.register.specs.Whole.{said-short}
 use borrow.Author.Needs.{needs}
 use Rattle.listing.proofs.reply_all.Statement.{statement}
 use Rattle.listing.proofs.reply_all.Tie as tie
@@ -19,7 +21,8 @@ returns c =
     let asked = c .before .before .before .before .before .before .before .before .before .before .args in
     let lent = c .before .before .before .before .before .before .before .before .before .before .pre in
     let puts = c .before .before .before .before .reply-all .ensures in
-    (puts .0, all-written (coming (asked .line) (asked .room .now)) (asked .bytes .now) lent (puts .1))
+    let comes = coming (asked .line) (asked .room .now) in
+    (puts .0, ended-written (always said) (λ s. said-short) comes (asked .bytes .now) lent (puts .1))
 
 pub reply-all-spec : {M : Type 1} → statement M
 reply-all-spec = tie.close (tie.spec reply-all-requires same-length same-length-2 returns)

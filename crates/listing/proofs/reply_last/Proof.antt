@@ -1,6 +1,8 @@
 -- `listing::reply_last` meets its contract: a reply has at most 71 bytes. Assumes nothing.
-use Rattle.register.specs.Said.{coming}
-use Rattle.register.specs.Whole.{last-written}
+use Rattle.lines.specs.Answers.{always}
+use Rattle.output.specs.Written.{last-written}
+use Rattle.register.specs.Said.{said, coming}
+use Rattle.register.specs.Whole.{said-short}
 use borrow.Author.Needs.{needs}
 use Rattle.listing.proofs.reply_last.Statement.{statement}
 use Rattle.listing.proofs.reply_last.Tie as tie
@@ -14,7 +16,8 @@ same-length c = search needs
 returns : tie.Need-returns
 returns c =
     let asked = c .before .before .before .before .before .before .args in
-    last-written (coming (asked .line) (asked .room .now)) (c .before .before .before .before .before .before .pre) (c .before .before .reply-last .ensures)
+    let comes = coming (asked .line) (asked .room .now) in
+    last-written (always said) (λ s. said-short) comes (c .before .before .before .before .before .before .pre) (c .before .before .reply-last .ensures)
 
 pub reply-last-spec : {M : Type 1} → statement M
 reply-last-spec = tie.close (tie.spec reply-last-requires same-length returns)

@@ -1,64 +1,39 @@
--- `numbers::number_at` meets its contract: the word's end and the word's value are those that `numberAt` names.
--- Assumes nothing.
-use mathlib.Core.Path.{sym, ap, _∙_}
-use Rattle.numbers.specs.Numbers.{endingAt}
-use Rattle.numbers.specs.NumbersLaws.{number-past, number-within}
+-- `numbers::number_at` meets its contract: a number that is found is at most 4,294,967,295, so that 32 bits hold it. Assumes nothing.
+use mathlib.Core.Path.{sym, _∙_}
+use Rattle.numbers.specs.NumbersLaws.{number-short, within-found}
 use borrow.Author.Needs.{needs}
 use Rattle.numbers.proofs.number_at.Statement.{statement}
 use Rattle.numbers.proofs.number_at.Tie as tie
 
-word-end-requires : tie.Need-word-end-requires
-word-end-requires c κs = search needs
+within-at-requires : tie.Need-within-at-requires
+within-at-requires c κs = search needs
 
-returns : tie.Need-returns
-returns c =
-    let asked = c .before .before .before .args in
-    let ended = c .before .word-end in
-    sym (number-past (asked .line .now) (asked .at) (ended .result) (ended .ensures) (c .if1 .taken))
+enum-known-found : tie.Need-enum-known-found
+enum-known-found c = search needs
 
-sub-word-value : tie.Need-sub-word-value
-sub-word-value c = search needs
-
-part-word-value-start : tie.Need-part-word-value-start
-part-word-value-start c = search needs
-
-part-word-value-end : tie.Need-part-word-value-end
-part-word-value-end c = search needs
-
-word-value-requires : tie.Need-word-value-requires
-word-value-requires c κs = search needs
-
-enum-known-word : tie.Need-enum-known-word
-enum-known-word c = search needs
+cast-t7 : tie.Need-cast-t7
+cast-t7 c =
+    let asked = c .before .before .before .before .before .args in
+    let got = c .before .found .given in
+    let is = sym (c .before .before .before .within-at .ensures) ∙ got .1 in
+    let small = within-found 10 4294967295 (asked .line .now) (asked .at) (got .0 .0) (got .0 .1 .0) is .small in
+    search needs
 
 enum-told : tie.Need-enum-told
 enum-told c = search needs
 
+returns : tie.Need-returns
+returns c =
+    let asked = c .before .before .before .before .before .args in
+    let is = sym (c .before .before .before .within-at .ensures) ∙ c .before .found .given .1 in
+    sym (number-short (asked .line .now) (asked .at) is)
+
 returns-2 : tie.Need-returns-2
 returns-2 c =
-    let asked = c .before .before .before .before .before .before .before .before .args in
-    let ended = c .before .before .before .before .before .before .word-end in
-    let is = sym (c .before .before .before .word-value .ensures) ∙ c .before .word .given .1 in
-    sym (number-within (asked .line .now) (asked .at) (ended .result) (ended .ensures) ∙ ap (endingAt (ended .result)) is)
-
-returns-3 : tie.Need-returns-3
-returns-3 c =
-    let asked = c .before .before .before .before .before .before .before .args in
-    let ended = c .before .before .before .before .before .word-end in
-    let is = sym (c .before .before .word-value .ensures) ∙ c .enum-told .given .1 in
-    sym (number-within (asked .line .now) (asked .at) (ended .result) (ended .ensures) ∙ ap (endingAt (ended .result)) is)
+    let asked = c .before .before .before .before .args in
+    let is = sym (c .before .before .within-at .ensures) ∙ c .enum-told .given .1 in
+    sym (number-short (asked .line .now) (asked .at) is)
 
 pub number-at-spec : {M : Type 1} → statement M
 number-at-spec =
-    tie.close
-    (tie.spec
-    word-end-requires
-    returns
-    sub-word-value
-    part-word-value-start
-    part-word-value-end
-    word-value-requires
-    enum-known-word
-    enum-told
-    returns-2
-    returns-3)
+    tie.close (tie.spec within-at-requires enum-known-found cast-t7 enum-told returns returns-2)

@@ -4,6 +4,7 @@ use borrow.Author.Needs.{needs}
 use Prim.Native.Nat.{_-_}
 use mathlib.Core.Path.{_≡_, refl}
 use lib.ListN.{length}
+use Rattle.lines.specs.Answers.{always}
 use Rattle.output.specs.Replying.{Replying, replying-begin, replying-step, replying-end}
 use Rattle.register.specs.Said.{said, coming}
 use Rattle.register.proofs.reply_all.Statement.{statement}
@@ -12,7 +13,7 @@ use Rattle.register.proofs.reply_all.Tie as tie
 abbrev Inv-loop : tie.InvT-loop
 Inv-loop bytes room₀ out₀ coordinates₀ listed₀ i₀ room out coordinates listed i =
     (length room ≡ length room₀) × (length out ≡ length out₀) × (length coordinates ≡ length coordinates₀)
-    × Replying said (coming (listed₀ .line) room₀) bytes out₀ (coming (listed .line) room) out (listed .put) i
+    × Replying (always said) (coming (listed₀ .line) room₀) bytes out₀ (coming (listed .line) room) out (listed .put) i
 
 abbrev μ-loop : tie.MeasureT-loop
 μ-loop bytes room₀ out₀ coordinates₀ listed₀ i₀ room out coordinates listed i = length bytes - i
@@ -23,7 +24,7 @@ slice-aggregate-coordinates c = search needs
 loop-holds : tie.Need-loop-holds Inv-loop μ-loop
 loop-holds c =
     let asked = c .before .before .before .before .args in
-    (refl, refl, refl, replying-begin said (coming (asked .line) (asked .room .now)) (asked .bytes .now) (asked .out .now))
+    (refl, refl, refl, replying-begin (always said) (coming (asked .line) (asked .room .now)) (asked .bytes .now) (asked .out .now))
 
 shared-slice-read-take-byte : tie.Need-shared-slice-read-take-byte Inv-loop μ-loop
 shared-slice-read-take-byte c = search needs

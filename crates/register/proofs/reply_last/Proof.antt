@@ -1,4 +1,5 @@
 -- `register::reply_last` meets its contract: where no byte stands in the room there is no line. Assumes nothing.
+use Rattle.lines.specs.Answers.{always}
 use Rattle.lines.specs.AutomatonLaws.{last-none, last-some}
 use Rattle.room.specs.RoomLaws.{put-nothing}
 use Rattle.register.specs.Said.{said, coming}
@@ -9,7 +10,7 @@ use Rattle.register.proofs.reply_last.Tie as tie
 returns : tie.Need-returns
 returns c =
     let asked = c .before .before .before .before .args in
-    rw (last-none said (coming (asked .line) (asked .room .now)) (c .if1 .taken)) (put-nothing (asked .out .now) 0)
+    rw (last-none (always said) (coming (asked .line) (asked .room .now)) (c .if1 .taken)) (put-nothing (asked .out .now) 0)
 
 slice-aggregate-reply-held : tie.Need-slice-aggregate-reply-held
 slice-aggregate-reply-held c = search needs
@@ -23,7 +24,7 @@ same-length c = search needs
 returns-2 : tie.Need-returns-2
 returns-2 c =
     let asked = c .before .before .before .before .before .before .before .before .before .before .args in
-    let some = last-some said (coming (asked .line) (asked .room .now)) (c .before .before .before .before .before .before .if1 .left) in
+    let some = last-some (always said) (coming (asked .line) (asked .room .now)) (c .before .before .before .before .before .before .if1 .left) in
     rw some (c .before .before .before .reply-held .ensures)
 
 pub reply-last-spec : {M : Type 1} → statement M

@@ -1,4 +1,5 @@
 -- `register::take_byte` meets its contract, by the two laws of one byte. Assumes nothing.
+use Rattle.lines.specs.Answers.{always}
 use Rattle.lines.specs.AutomatonLaws.{byte-feed, byte-more}
 use Rattle.room.specs.RoomLaws.{put-nothing}
 use Rattle.register.specs.Said.{said, coming}
@@ -25,7 +26,7 @@ returns : tie.Need-returns
 returns c =
     let asked = c .before .before .before .before .before .before .before .before .before .before .before .before .before .args in
     let feed = c .before .before .before .before .before .before .before .before .before .if1 .taken in
-    let fed = byte-feed said (coming (asked .line) (asked .room .now)) (asked .byte) feed in
+    let fed = byte-feed (always said) (coming (asked .line) (asked .room .now)) (asked .byte) feed in
     (rw (fed .0, c .wrapping-add-u64 .ensures), rw (fed .1) (c .before .before .before .before .before .reply-held .ensures))
 
 add-requires : tie.Need-add-requires
@@ -37,7 +38,7 @@ same-length-4 c = search needs
 returns-2 : tie.Need-returns-2
 returns-2 c =
     let asked = c .before .before .before .before .before .before .before .before .args in
-    let grew = byte-more said (coming (asked .line) (asked .room .now)) (asked .byte) (c .before .before .before .before .if1 .left) in
+    let grew = byte-more (always said) (coming (asked .line) (asked .room .now)) (asked .byte) (c .before .before .before .before .if1 .left) in
     let added = c .before .before .add .ensures in
     (rw (grew .0, added .0, added .1), rw (grew .1) (put-nothing (asked .out .now) (asked .at)))
 

@@ -1,0 +1,39 @@
+-- The laws of lines answered one after the other: where no state changes, the replies are those of the page; an answer that goes by a
+-- line's first bytes. Assumes nothing.
+use Prim.Native.Nat.{ℕ, _+_, _≤_, _<_}
+use native.Mathlib.Omega.{arith}
+use mathlib.Core.Path.{_≡_, refl, sym, ap, _∙_}
+use mathlib.Core.Logic.{_⊎_, inl, inr}
+use mathlib.Core.List.{List, [], _∷_, _++_}
+use lib.ListN.{length, take, length-take}
+use lib.Seq.{take-all}
+use Rattle.facts.specs.Numbers.{either-way}
+use Rattle.lines.specs.Lines.{Reply, replyLine, replies, linesOf, outputOf}
+use Rattle.lines.specs.Answers.{Answered, Answering, repliesFrom, outputFrom, always}
+
+-- what is said of a line whatever came before it: the replies are the page's
+module _ (said : List ℕ → Reply) where
+  replies-always : (number : ℕ) (lines : List (List ℕ)) → repliesFrom (always said) tt number lines ≡ replies said number lines
+  unfolding repliesFrom replies
+  replies-always number [] = refl
+  replies-always number (line ∷ lines) = ap (λ (t : List ℕ). replyLine number (said line) ++ t) (replies-always (number + 1) lines)
+
+  pub output-always : (input : List ℕ) → outputFrom (always said) tt input ≡ outputOf said input
+  unfolding outputFrom outputOf
+  output-always input = replies-always 1 (linesOf input)
+
+-- in every state the answer to a line goes by its first `size` bytes, of which there are some
+pub record ByFirst {S : Type 0} (says : Answering S) (size : ℕ) : Type 0 where
+  pub some : 0 < size
+  pub same : (s : S) (line : List ℕ) → says s (take size line) ≡ says s line
+
+-- where all lines of more than `most` bytes have one answer, more bytes than that are enough
+pub long-first : {S : Type 0} (says : Answering S) (most size : ℕ) (long : S → Answered S)
+    → ((s : S) (line : List ℕ) → most < length line → says s line ≡ long s) → most < size → ByFirst says size
+long-first {S} says most size long one h = record { some = omega arith; same = λ (s : S) (line : List ℕ). at s line (either-way (length line) size) }
+  where
+    at : (s : S) (line : List ℕ) → (length line ≤ size) ⊎ (size < length line) → says s (take size line) ≡ says s line
+    at s line (inl k) = ap (says s) (take-all size line k)
+    at s line (inr k) =
+        let over : most < length (take size line) = omega (arith, length-take size line) in
+        one s (take size line) over ∙ sym (one s line (omega arith))

@@ -1,0 +1,76 @@
+-- The laws of lines of messages: what a line that starts with a letter and a space is, and one that does not; and worked examples.
+-- Assumes nothing.
+use Prim.Native.Nat.{ℕ}
+use native.Mathlib.Omega.{arith}
+use mathlib.Core.Path.{_≡_, refl}
+use mathlib.Core.Bool.{Bool, true, false, _&&_, and-true}
+use mathlib.Core.List.{List, [], _∷_, map}
+use lib.ListN.{drop, replicate}
+use lib.Dec.{eqb}
+use borrow.Author.Tests.{eqb-true}
+use Rattle.facts.specs.Tests.{both}
+use Rattle.facts.specs.Texts.{bytes}
+use Rattle.lines.specs.Lines.{valueAfter, isWithin}
+use Rattle.lines.specs.Starts.{startsWith}
+use Rattle.lines.specs.Messages.{isLong, Parted, parted, unparted, led, part, message, notOfThisForm, isLetter, numbered, lettered, messageOf}
+
+-- a line that starts with a byte and a space
+starts-part : (b : ℕ) → eqb b 32 ≡ false → (line : List ℕ) → startsWith line (b ∷ 32 ∷ []) ≡ true → part line ≡ parted (b ∷ []) (drop 2 line)
+unfolding startsWith part
+starts-part b apart [] e = let z : _≡_ {A = ℕ} 0 1 = cc in absurd (omega arith)
+starts-part b apart (x ∷ []) e = let z : _≡_ {A = ℕ} 0 1 = cc (both (eqb x b) false e .1) in absurd (omega arith)
+starts-part b apart (x ∷ y ∷ t) e =
+    let first = both (eqb x b) (eqb y 32 && true) e in
+    let second = both (eqb y 32) true (first .1) in
+    rw (eqb-true x b (first .0), eqb-true y 32 (second .0), apart)
+
+-- what follows a letter and a space says what a message is
+pub message-starts : (letter : ℕ) → eqb letter 32 ≡ false → isLetter letter ≡ true → (line : List ℕ)
+    → startsWith line (letter ∷ 32 ∷ []) ≡ true → messageOf line ≡ numbered letter (part (drop 2 line))
+unfolding messageOf
+message-starts letter apart known line e = rw (starts-part letter apart line e, known)
+
+-- a word of two bytes and more is no letter
+long-word : (x y : ℕ) (p : Parted) → lettered (led x (led y p)) ≡ notOfThisForm
+long-word x y (parted word rest) = refl
+long-word x y unparted = refl
+
+-- a line that starts with no letter and a space is not of this form
+pub message-none : (line : List ℕ) → startsWith line (65 ∷ 32 ∷ []) ≡ false → startsWith line (67 ∷ 32 ∷ []) ≡ false → messageOf line ≡ notOfThisForm
+unfolding messageOf part startsWith
+message-none [] a c = refl
+message-none (x ∷ []) a c = pick (eqb x 32) refl
+  where
+    pick : (e : Bool) → eqb x 32 ≡ e → messageOf (x ∷ []) ≡ notOfThisForm
+    pick true e = rw e
+    pick false e = rw e
+message-none (x ∷ y ∷ t) a c = pick (eqb x 32) (eqb y 32) refl refl
+  where
+    pick : (d e : Bool) → eqb x 32 ≡ d → eqb y 32 ≡ e → messageOf (x ∷ y ∷ t) ≡ notOfThisForm
+    pick true e p q = rw p
+    pick false true p q =
+        let first : eqb x 65 ≡ false = rw (q, and-true) at a in
+        let second : eqb x 67 ≡ false = rw (q, and-true) at c in
+        rw (p, q, first, second)
+    pick false false p q = rw (p, q) (long-word x y (part t))
+
+-- ---- examples
+
+long-numbers : map isLong (bytes "0" ∷ bytes "17" ∷ bytes "18446744073709551615" ∷ []) ≡ replicate 3 true
+unfolding isWithin valueAfter
+long-numbers = refl
+
+no-long-numbers : map isLong (bytes "" ∷ bytes "00" ∷ bytes "017" ∷ bytes "18446744073709551616" ∷ bytes "100000000000000000000" ∷ bytes "1x" ∷ [])
+    ≡ replicate 6 false
+unfolding isWithin valueAfter
+no-long-numbers = refl
+
+messages : map messageOf (bytes "A 17 XY" ∷ bytes "C 0 " ∷ bytes "A 1 X Y" ∷ [])
+    ≡ message 65 17 (bytes "XY") ∷ message 67 0 [] ∷ message 65 1 (bytes "X Y") ∷ []
+unfolding messageOf part isWithin valueAfter
+messages = refl
+
+no-messages : map messageOf (bytes "" ∷ bytes "A" ∷ bytes "A 17" ∷ bytes "A  17 XY" ∷ bytes "B 17 XY" ∷ bytes "AC 17 XY" ∷ bytes " A 17 XY" ∷ [])
+    ≡ replicate 7 notOfThisForm
+unfolding messageOf part isWithin valueAfter
+no-messages = refl
