@@ -47,9 +47,9 @@ use Rattle.history.specs.History.{
   Kept,
 }
 
--- ---- what one message changes
+-- ---- what changes in each row
 
--- A code that is as told stays as it was
+-- Where a code is as told already, it stays as it was
 as-it-was : (account : Account) (told code : Halves) {b : Bool} → isActive account told ≡ b
     → isActive account code ≡ cond (sameCode told code) b (isActive account code)
 as-it-was account told code {b} e = at (sameCode told code) refl
@@ -102,22 +102,26 @@ module _ {account : Account} (sound : Sound account) (m : Message) where
   sent-processed : send account m ≡ processing (m .kind) account (m .text) (m .number)
   sent-processed = message-processing (m .kind) account (m .text) (m .number) sound
 
+  -- so one of the rows comes of it
   sent-outcome : Outcome account (m .text) (m .number) (m .kind) (send account m)
   sent-outcome = rw sent-processed (outcome account (m .text) (m .number) (m .kind))
 
   -- A message with its answer
-  abbrev answered : Sent
+  abbrev pub answered : Sent
   answered = record { message = m; answer = send account m .answer }
 
-  send-active : (code : Halves) → isActive (send account m .account) code
+  -- Its code is active where it counts and is an activation, and any other as it was
+  pub send-active : (code : Halves) → isActive (send account m .account) code
       ≡ cond (concerns code answered) (isActivation (m .kind)) (isActive account code)
   send-active = outcome-active sound sent-outcome
 
-  send-count : countActive (send account m .account .active) + one (bytes "cancelled") (answered .answer)
+  -- One more place is active for "activated", one less for "cancelled"
+  pub send-count : countActive (send account m .account .active) + one (bytes "cancelled") (answered .answer)
       ≡ countActive (account .active) + one (bytes "activated") (answered .answer)
   send-count = outcome-count sound sent-outcome
 
-  send-sound : Sound (send account m .account)
+  -- and the account stays sound
+  pub send-sound : Sound (send account m .account)
   send-sound = message-sound (m .kind) account (m .text) (m .number) sound
 
 -- ---- what messages from a sound account on leave
@@ -160,13 +164,36 @@ after-not-40 (m ∷ later) {account} sound = (
   after-not-40 later (send-sound sound m),
 )
 
+-- ---- what the latest is
+
+module _ (code : Halves) where
+  -- No message concerns the code
+  abbrev pub NoneConcerns : List Sent → Type 0
+  NoneConcerns = Each (λ (s : Sent). concerns code s ≡ false)
+
+  -- Then what was told before holds
+  pub latest-none : (all : List Sent) (before : Bool) → NoneConcerns all → latest code before all ≡ before
+  latest-none [] before none = refl
+  latest-none (s ∷ later) before none = rw (none .0) (latest-none later before (none .1))
+
+  -- Where one concerns it and none later does, that one tells, whatever came earlier
+  pub latest-tells : (earlier : List Sent) (s : Sent) (later : List Sent) (before : Bool) → concerns code s ≡ true → NoneConcerns later
+      → latest code before (earlier ++ s ∷ later) ≡ isActivation (s .message .kind)
+  latest-tells [] s later before such none =
+      let tells = ap (λ (b : Bool). cond b (isActivation (s .message .kind)) before) such in
+      ap (λ (told : Bool). latest code told later) tells ∙ latest-none later (isActivation (s .message .kind)) none
+  latest-tells (e ∷ earlier) s later before such none =
+      latest-tells earlier s later (cond (concerns code e) (isActivation (e .message .kind)) before) such none
+
 -- ---- messages and more messages
 
+-- More messages go on from the account that the first leave
 pub after-append : (messages more : List Message) (account : Account)
     → after account (messages ++ more) ≡ after (after account messages) more
 after-append [] more account = refl
 after-append (m ∷ later) more account = after-append later more (send account m .account)
 
+-- and so do the answers
 pub sent-append : (messages more : List Message) (account : Account)
     → sent account (messages ++ more) ≡ sent account messages ++ sent (after account messages) more
 sent-append [] more account = refl
@@ -175,6 +202,7 @@ sent-append (m ∷ later) more account =
 
 -- ---- from empty
 
+-- What is said of any messages from empty
 pub kept : (messages : List Message) → Kept messages
 kept messages = record {
   active = λ code. after-active messages empty-sound code ∙ ap (λ (b : Bool). latest code b (sent empty messages)) (empty-active code);
