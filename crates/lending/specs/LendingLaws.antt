@@ -2,15 +2,19 @@
 use Prim.Native.Nat.{ℕ, _+_, _≤_, _<_}
 use native.Mathlib.Numerals.{add-one}
 use native.Mathlib.Omega.{arith}
-use mathlib.Core.Path.{_≡_, refl, ap, sym, _∙_}
+use mathlib.Core.Path.{_≡_, refl, ap, sym, subst, _∙_}
 use mathlib.Core.Bool.{and-false}
 use mathlib.Core.List.{List, [], _∷_, _++_}
 use lib.ListN.{length, take, set, getD, length-set}
 use lib.Seq.{take-suc-set, take-suc, take-all}
 use borrow.Author.Tests.{eq-eqb, ne-eqb}
 use Rattle.places.specs.Places.{places}
+use Rattle.entitlements.specs.declared.Account.{Account}
+use Rattle.entitlements.specs.declared.Answered.{Answered}
 use Rattle.entitlements.specs.declared.Kind.{Kind}
-use Rattle.entitlements.specs.Entitlements.{refusal, done, message}
+use Rattle.entitlements.specs.Entitlements.{refusal, Done, done, does, message}
+use Rattle.entitlements.specs.Sound.{Sized}
+use Rattle.entitlements.specs.Outcomes.{message-sized}
 use Rattle.lending.specs.Lending.{accountOf, lending}
 
 -- The first i places of an array are those of another
@@ -61,3 +65,12 @@ module _ (kind : Kind) (high low active : List ℕ) (last : ℕ) (text : List �
       → lending kind high low active last text number ≡ message kind (accountOf high low active last) text number
   unfolding lending
   lending-sends h l a = rw (eq-eqb (length high) places h, eq-eqb (length low) places l, eq-eqb (length active) places a)
+
+  -- and whatever keeps the promise of the message has 256 places afterwards
+  pub sends-sized : length high ≡ places → length low ≡ places → length active ≡ places → (r : Answered) {account : Account}
+      → account ≡ accountOf high low active last → does r ≡ message kind account text number → Sized (r .account)
+  sends-sized h l a r {account} e so =
+      let whole : does r ≡ message kind (accountOf high low active last) text number =
+      so ∙ ap (λ (from : Account). message kind from text number) e in
+      subst (λ (d : Done). Sized (d .account)) (sym whole)
+      (message-sized kind (accountOf high low active last) text number (record { highs = h; lows = l; actives = a }))
