@@ -1,9 +1,9 @@
 -- No second answer satisfies the promise of a message: each case of an answer is found back from what it says. Assumes nothing.
 use Prim.Native.Nat.{ℕ, _+_}
 use mathlib.Core.Path.{_≡_, refl, ap}
-use mathlib.Core.List.{List, [], _∷_}
+use mathlib.Core.List.{[], _∷_}
 use lib.ListN.{length, getD}
-use Rattle.facts.specs.Once.{once, said-once, sought}
+use Rattle.facts.specs.Once.{said-once, sought}
 use Rattle.entitlements.specs.declared.Account.{Account}
 use Rattle.entitlements.specs.declared.Answer.{Answer}
 use Rattle.entitlements.specs.declared.Answer.the-variants as answer

@@ -8,7 +8,7 @@ use lib.ListN.{length}
 use Rattle.places.specs.Places.{places}
 use Rattle.entitlements.specs.declared.Account.{Account}
 use Rattle.entitlements.specs.declared.Kind.{Kind}
-use Rattle.entitlements.specs.Entitlements.{refusal, says, Done, done, message}
+use Rattle.entitlements.specs.Entitlements.{Answering, activated, already, cancelled, notActive, old, full, refusal, Done, done, message}
 use Rattle.lending.specs.declared.Lent.{Lent}
 
 -- An account by what is lent
@@ -25,6 +25,13 @@ lending kind high low active last text number =
     cond (isAccount high low active) (message kind (accountOf high low active last) text number)
     (done (refusal 40) (accountOf high low active last))
 
--- What a function answers and leaves in the arrays
+-- The answer by its number: 1 to 5 by the words, and a refusal by its own
+abbrev pub answering : ℕ → Answering
+answering n =
+    cond (eqb n 1) activated
+    (cond (eqb n 2) already
+    (cond (eqb n 3) cancelled (cond (eqb n 4) notActive (cond (eqb n 5) old (cond (eqb n 43) full (refusal n))))))
+
+-- What a function answers, and leaves in the arrays
 abbrev pub lends : Lent → List ℕ → List ℕ → List ℕ → Done
-lends r high low active = done (says (r .answer)) (accountOf high low active (r .last))
+lends r high low active = done (answering (r .answer)) (accountOf high low active (r .last))

@@ -3,19 +3,37 @@
 ghost use mathlib.Core.Path.{_≡_};
 ghost use lib.ListN.{length};
 ghost use Rattle.places.specs.Places.{places};
-ghost use Rattle.entitlements.specs.Entitlements.{does, message};
-ghost use Rattle.lending.specs.Lending.{accountOf, lends, lending};
+ghost use Rattle.entitlements.specs.Entitlements.{says, does, message};
+ghost use Rattle.lending.specs.Lending.{answering, accountOf, lends, lending};
 use entitlements::Account;
 use entitlements::Answer;
 use entitlements::Answered;
 use entitlements::Kind;
 use places::PLACES;
 
-// What a message to a lent account is answered, and the last number afterwards; the arrays are as
-// afterwards too.
+// What a message to a lent account is answered, by a number, and the last number afterwards. Laid out as
+// in C, so that callers in other languages can have it.
+#[repr(C)]
 pub struct Lent {
-    pub answer: Answer,
+    pub answer: u32,
     pub last: u64,
+}
+
+// The number of an answer: 1 to 5 by the words, a refusal's own otherwise.
+fn answer_code(answer: Answer) -> u32
+    ensures { λ r. ⌜ answering r ≡ says answer ⌝ }
+{
+    match answer {
+        Answer::Activated => 1,
+        Answer::Already => 2,
+        Answer::Cancelled => 3,
+        Answer::NotActive => 4,
+        Answer::Old => 5,
+        Answer::Account => 40,
+        Answer::Number => 41,
+        Answer::Code => 42,
+        Answer::Full => 43,
+    }
 }
 
 // A lent array by value.
@@ -86,25 +104,16 @@ pub fn send_lent(
     ensures { λ r. ⌜ lends r (now (high .exit)) (now (low .exit)) (now (active .exit)) ≡ lending kind (now (high .entry)) (now (low .entry)) (now (active .entry)) last (now (text .entry)) number ⌝ }
 {
     if high.len() != PLACES {
-        return Lent {
-            answer: Answer::Account,
-            last,
-        };
+        return Lent { answer: 40, last };
     }
     if low.len() != PLACES {
-        return Lent {
-            answer: Answer::Account,
-            last,
-        };
+        return Lent { answer: 40, last };
     }
     if active.len() != PLACES {
-        return Lent {
-            answer: Answer::Account,
-            last,
-        };
+        return Lent { answer: 40, last };
     }
     let answered = send(kind, taken_in(high, low, active, last), text, number);
-    let answer = answered.answer;
+    let answer = answer_code(answered.answer);
     let next = answered.account;
     let kept = next.high;
     hand_back(high, kept);
