@@ -9,10 +9,11 @@ use std::io::{self, BufWriter, ErrorKind, Write};
 use std::process::ExitCode;
 
 use generators::{borderedges, borders, borderunits, changes, requests, units};
-use program::{lines, tails, trials};
+use program::{lines, messages, tails, trials};
 use tests::{cases, selftest};
 
-const USAGE: &str = "usage: judge listing | trials | tails | requests SEED COUNT [KINDS] | \
+const USAGE: &str =
+    "usage: judge listing | account | trials | tails | requests SEED COUNT [KINDS] | \
 borders [units | roads | edges] | agree SEED COUNT | units SEED COUNT | changes SEED COUNT | \
 cases | selftest";
 
@@ -44,6 +45,7 @@ fn run(words: &[&str]) -> io::Result<Option<bool>> {
     let output = &mut BufWriter::new(io::stdout().lock());
     let good = match words {
         ["listing"] => lines::listing(input, output).map(|()| true),
+        ["account"] => messages::account(input, output).map(|()| true),
         ["trials"] => trials::trials(input, output).map(|()| true),
         ["tails"] => tails::tails(input, output).map(|()| true),
         ["borders"] => borders::borders(output).map(|()| true),
