@@ -73,7 +73,7 @@ fn run_seeded(
 ) -> io::Result<Option<bool>> {
     let good = match (command, kinds) {
         ("requests", []) => {
-            requests::requests(seed, count, &requests::all_kinds(), output).map(|()| true)
+            requests::requests(seed, count, &requests::mixed_kinds(), output).map(|()| true)
         }
         ("requests", [list]) => match requests::kinds_of(list) {
             Some(kinds) => requests::requests(seed, count, &kinds, output).map(|()| true),

@@ -1,6 +1,7 @@
 //! What both programs are asked: random units, lines, pairs of lines and
 //! requests from a seed, and the fixed lists at every border.
 
+mod accounts;
 mod asked;
 pub mod bordercrossings;
 pub mod borderedges;
@@ -15,5 +16,6 @@ pub mod random;
 pub mod requests;
 pub mod shapes;
 pub mod tails;
+mod texts;
 pub mod units;
 pub mod waists;
