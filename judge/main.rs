@@ -8,14 +8,14 @@ mod tests;
 use std::io::{self, BufWriter, ErrorKind, Write};
 use std::process::ExitCode;
 
-use generators::{borderedges, borders, borderunits, changes, requests, units};
+use generators::{borderedges, borders, borderunits, changes, histories, requests, units};
 use program::{lines, messages, tails, trials};
 use tests::{cases, selftest};
 
 const USAGE: &str =
     "usage: judge listing | account | trials | tails | requests SEED COUNT [KINDS] | \
-borders [units | roads | edges] | agree SEED COUNT | units SEED COUNT | changes SEED COUNT | \
-cases | selftest";
+borders [units | roads | edges] | agree SEED COUNT | units SEED COUNT | messages SEED COUNT | \
+changes SEED COUNT | cases | selftest";
 
 fn main() -> ExitCode {
     let words = std::env::args_os().skip(1);
@@ -81,6 +81,7 @@ fn run_seeded(
         },
         ("agree", []) => selftest::agree(seed, count, output),
         ("units", []) => units::units(seed, count, output).map(|()| true),
+        ("messages", []) => histories::messages(seed, count, output).map(|()| true),
         ("changes", []) => changes::changes(seed, count, output).map(|()| true),
         _ => return Ok(None),
     }?;

@@ -12,6 +12,7 @@ mod broken;
 pub mod changes;
 pub mod crossing;
 mod far;
+pub mod histories;
 pub mod random;
 pub mod requests;
 pub mod shapes;
