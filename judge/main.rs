@@ -8,14 +8,17 @@ mod tests;
 use std::io::{self, BufWriter, ErrorKind, Write};
 use std::process::ExitCode;
 
-use generators::{borderedges, borders, borderunits, changes, histories, requests, units};
+use generators::{
+    borderaccount, borderedges, bordermessages, borders, borderunits, changes, histories, requests,
+    units,
+};
 use program::{lines, messages, tails, trials};
 use tests::{cases, selftest};
 
-const USAGE: &str =
-    "usage: judge listing | account | trials | tails | requests SEED COUNT [KINDS] | \
-borders [units | roads | edges] | agree SEED COUNT | units SEED COUNT | messages SEED COUNT | \
-changes SEED COUNT | cases | selftest";
+const USAGE: &str = "usage: judge listing | account | trials | tails | \
+requests SEED COUNT [KINDS] | borders [units | roads | edges | messages | account] | \
+agree SEED COUNT | units SEED COUNT | messages SEED COUNT | changes SEED COUNT | \
+cases | selftest";
 
 fn main() -> ExitCode {
     let words = std::env::args_os().skip(1);
@@ -52,6 +55,8 @@ fn run(words: &[&str]) -> io::Result<Option<bool>> {
         ["borders", "units"] => borderunits::border_units(output).map(|()| true),
         ["borders", "roads"] => borderunits::border_roads(output).map(|()| true),
         ["borders", "edges"] => borderedges::border_edges(output).map(|()| true),
+        ["borders", "account"] => borderaccount::border_account(output).map(|()| true),
+        ["borders", "messages"] => bordermessages::border_messages(output).map(|()| true),
         ["cases"] => cases::cases(output),
         ["selftest"] => selftest::selftest(output),
         [command, seed, count, kinds @ ..] => match (seed.parse(), count.parse()) {

@@ -3,8 +3,10 @@
 
 mod accounts;
 mod asked;
+pub mod borderaccount;
 pub mod bordercrossings;
 pub mod borderedges;
+pub mod bordermessages;
 pub mod borders;
 pub mod bordertails;
 pub mod borderunits;
