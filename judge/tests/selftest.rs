@@ -5,7 +5,7 @@ use std::collections::BTreeSet;
 use std::io::{self, Write};
 
 use super::cases::cases;
-use super::{crossings, tails};
+use super::{accounts, crossings, tails};
 use crate::generators::borderedges::border_edges;
 use crate::generators::borders::borders;
 use crate::generators::borderunits::{border_roads, border_units};
@@ -48,7 +48,7 @@ pub fn agree(seed: u64, count: u64, output: &mut impl Write) -> io::Result<bool>
 pub fn selftest(output: &mut impl Write) -> io::Result<bool> {
     let mut good = cases(output)?;
     good &= agree(1, 2_000, output)?;
-    let tests: [(&str, fn() -> bool); 26] = [
+    let tests: [(&str, fn() -> bool); 34] = [
         ("letters", letters_good),
         ("grid", grid_good),
         ("meeting", meeting_good),
@@ -75,6 +75,14 @@ pub fn selftest(output: &mut impl Write) -> io::Result<bool> {
         ("spans after a step and without one", tails::spans_good),
         ("ways to have a long tail", tails::sorts_good),
         ("random units with long tails", tails::share_good),
+        ("answers of an account", accounts::answers_good),
+        ("lowest and cleared places", accounts::places_good),
+        ("accounts that are refused 40", accounts::handed_in_good),
+        ("41, 42 and old in order", accounts::order_good),
+        ("full accounts", accounts::full_good),
+        ("active codes over a history", accounts::history_good),
+        ("fixed and random messages", accounts::requests_good),
+        ("fixed and random message lines", accounts::lines_good),
     ];
     for (name, test) in tests {
         let passed = test();
