@@ -289,8 +289,6 @@ fn full() -> Lines {
         line('C', 6, &last),
         line('C', 6, CODES[1]),
         line('A', 5, CODES[1]),
-        line('A', 0, CODES[1]),
-        line('A', 5, REFUSED[0]),
         with(0, Place::default()),
         with(255, place(0, CODES[1])),
         with(100, place(7, CODES[2])),
