@@ -78,7 +78,7 @@ pub fn message_request(random: &mut Random) -> Vec<u8> {
     line
 }
 
-/// How many places are active.
+/// How many places are active; one time in eight all or nearly all.
 fn active_count(random: &mut Random) -> usize {
     match random.below(100) {
         0..=11 => 0,

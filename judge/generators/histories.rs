@@ -149,11 +149,13 @@ impl History {
         (self.phase, self.left) = (next, left as u64);
     }
 
-    /// A number above the last, mostly the next one; as many stay as lines are left.
+    /// A number above the last, mostly the next one, rarely so far on that numbers
+    /// outgrow 32 bits; as many stay as lines are left.
     fn next_number(&self, random: &mut Random, left: u64) -> u64 {
-        let step = match random.below(100) {
-            0 => 1 + random.below(100_000),
-            1..=10 => 1 + random.below(100),
+        let step = match random.below(1_000) {
+            0 => 1 + random.below(1 << 33),
+            1..=10 => 1 + random.below(100_000),
+            11..=110 => 1 + random.below(100),
             _ => 1,
         };
         (self.last + step).min(MESSAGE_MAX - left)
