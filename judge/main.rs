@@ -8,12 +8,16 @@ mod tests;
 use std::io::{self, BufWriter, ErrorKind, Write};
 use std::process::ExitCode;
 
-use generators::{borderedges, borders, borderunits, changes, requests, units};
-use program::{lines, tails, trials};
+use generators::{
+    borderaccount, borderedges, bordermessages, borders, borderunits, changes, histories, requests,
+    units,
+};
+use program::{lines, messages, tails, trials};
 use tests::{cases, selftest};
 
-const USAGE: &str = "usage: judge listing | trials | tails | requests SEED COUNT [KINDS] | \
-borders [units | roads | edges] | agree SEED COUNT | units SEED COUNT | changes SEED COUNT | \
+const USAGE: &str = "usage: judge listing | account | trials | tails | \
+requests SEED COUNT [KINDS] | borders [units | roads | edges | messages | account] | \
+agree SEED COUNT | units SEED COUNT | messages SEED COUNT | changes SEED COUNT | \
 cases | selftest";
 
 fn main() -> ExitCode {
@@ -44,12 +48,15 @@ fn run(words: &[&str]) -> io::Result<Option<bool>> {
     let output = &mut BufWriter::new(io::stdout().lock());
     let good = match words {
         ["listing"] => lines::listing(input, output).map(|()| true),
+        ["account"] => messages::account(input, output).map(|()| true),
         ["trials"] => trials::trials(input, output).map(|()| true),
         ["tails"] => tails::tails(input, output).map(|()| true),
         ["borders"] => borders::borders(output).map(|()| true),
         ["borders", "units"] => borderunits::border_units(output).map(|()| true),
         ["borders", "roads"] => borderunits::border_roads(output).map(|()| true),
         ["borders", "edges"] => borderedges::border_edges(output).map(|()| true),
+        ["borders", "account"] => borderaccount::border_account(output).map(|()| true),
+        ["borders", "messages"] => bordermessages::border_messages(output).map(|()| true),
         ["cases"] => cases::cases(output),
         ["selftest"] => selftest::selftest(output),
         [command, seed, count, kinds @ ..] => match (seed.parse(), count.parse()) {
@@ -71,7 +78,7 @@ fn run_seeded(
 ) -> io::Result<Option<bool>> {
     let good = match (command, kinds) {
         ("requests", []) => {
-            requests::requests(seed, count, &requests::all_kinds(), output).map(|()| true)
+            requests::requests(seed, count, &requests::mixed_kinds(), output).map(|()| true)
         }
         ("requests", [list]) => match requests::kinds_of(list) {
             Some(kinds) => requests::requests(seed, count, &kinds, output).map(|()| true),
@@ -79,6 +86,7 @@ fn run_seeded(
         },
         ("agree", []) => selftest::agree(seed, count, output),
         ("units", []) => units::units(seed, count, output).map(|()| true),
+        ("messages", []) => histories::messages(seed, count, output).map(|()| true),
         ("changes", []) => changes::changes(seed, count, output).map(|()| true),
         _ => return Ok(None),
     }?;

@@ -1,4 +1,4 @@
-# What compare, listing and pairs share: each sets root and reads this file with `.`; beside also wants
+# What compare, listing, account and pairs share: each sets root and reads this file with `.`; beside also wants
 # a folder to work in, $work.
 judge=$root/target/judge
 

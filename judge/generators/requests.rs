@@ -2,6 +2,7 @@
 
 use std::io::{self, Write};
 
+use super::accounts::message_request;
 use super::asked::{inside_request, meets_request, odd_request};
 use super::broken::{broken, noise, BAD_NUMBERS};
 use super::crossing::{self, crossed_unit, missed_unit};
@@ -24,7 +25,7 @@ type Numbered = fn(&mut Random) -> (char, i64);
 type Share = (u64, Maker);
 
 /// The kinds of requests with their shares.
-const KINDS: [(&str, u64, Maker); 12] = [
+const KINDS: [(&str, u64, Maker); 13] = [
     ("write", 25, write_request),
     ("read", 30, read_request),
     ("plain", 15, plain_request),
@@ -37,6 +38,7 @@ const KINDS: [(&str, u64, Maker); 12] = [
     ("inside", 15, inside_request),
     ("bad", 15, bad_request),
     ("tail-units", 5, tailed_unit),
+    ("message", 5, message_request),
 ];
 
 /// Small bad requests, each wrong in its own way.
@@ -98,9 +100,10 @@ pub fn kinds_of(list: &str) -> Option<Vec<Share>> {
     list.split(',').map(|name| known(name).map(|kind| (kind.1, kind.2))).collect()
 }
 
-/// Every kind.
-pub fn all_kinds() -> Vec<Share> {
-    KINDS.iter().map(|kind| (kind.1, kind.2)).collect()
+/// The kinds of a mix: all but `message`, the last, so that what a seed gives stays the
+/// same.
+pub fn mixed_kinds() -> Vec<Share> {
+    KINDS[..KINDS.len() - 1].iter().map(|kind| (kind.1, kind.2)).collect()
 }
 
 /// Prints `count` requests of the kinds.
@@ -246,7 +249,7 @@ fn changed(random: &mut Random, code: &[u8]) -> Vec<u8> {
 }
 
 /// A byte that is no letter, or two.
-fn with_no_letter(random: &mut Random, code: &[u8]) -> Vec<u8> {
+pub fn with_no_letter(random: &mut Random, code: &[u8]) -> Vec<u8> {
     let mut text = code.to_vec();
     for _ in 0..random.between(1, 2) {
         let byte = match random.below(5) {
@@ -262,7 +265,7 @@ fn with_no_letter(random: &mut Random, code: &[u8]) -> Vec<u8> {
 }
 
 /// A text of any length but 20, of letters or of any bytes.
-fn wrong_length(random: &mut Random, code: &[u8]) -> Vec<u8> {
+pub fn wrong_length(random: &mut Random, code: &[u8]) -> Vec<u8> {
     let hundreds = random.between(100, 900) as usize;
     let length = random.pick(&[0, 1, 10, 18, 19, 21, 22, 40, 255, 256, 276, hundreds]);
     if random.one_in(3) {
@@ -282,7 +285,7 @@ fn with_angle(bits: u64, degrees: Option<u64>, minutes: Option<u64>, seconds: Op
 }
 
 /// Makes one of the parts bad that reading checks.
-fn spoil_part(random: &mut Random, parts: &mut Parts) {
+pub fn spoil_part(random: &mut Random, parts: &mut Parts) {
     let north_south = random.one_in(2);
     let least = if north_south { 90 } else { 180 };
     let any = random.between(least, 255) as u64;

@@ -101,7 +101,7 @@ fn unpair(paired: u64) -> (u64, u64) {
 }
 
 /// Letters of a number, five bits each, high first.
-fn put_letters(room: &mut [u8], value: u64) {
+pub fn put_letters(room: &mut [u8], value: u64) {
     for (i, letter) in room.iter_mut().rev().enumerate() {
         *letter = LETTERS[(value >> (5 * i) & 31) as usize];
     }

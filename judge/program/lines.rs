@@ -71,6 +71,17 @@ pub fn number(word: &[u8]) -> Option<u32> {
     u32::try_from(value).ok()
 }
 
+/// A number of up to 64 bits: decimal, at most 18,446,744,073,709,551,615, no
+/// leading zero but in `0`.
+pub fn long_number(word: &[u8]) -> Option<u64> {
+    let digits = !word.is_empty() && word.iter().all(u8::is_ascii_digit);
+    if !digits || (word[0] == b'0' && word.len() > 1) {
+        return None;
+    }
+    word.iter()
+        .try_fold(0u64, |value, digit| value.checked_mul(10)?.checked_add(u64::from(digit - b'0')))
+}
+
 /// A unit from its words: kind, number, coordinates.
 pub fn unit_of<'a>(mut words: impl Iterator<Item = &'a [u8]>) -> Option<Unit> {
     let kind = match words.next()? {
@@ -86,6 +97,12 @@ pub fn unit_of<'a>(mut words: impl Iterator<Item = &'a [u8]>) -> Option<Unit> {
 /// The words of a line; two spaces in a row have an empty word between them.
 pub fn words(line: &[u8]) -> impl Iterator<Item = &[u8]> {
     line.split(|&byte| byte == b' ')
+}
+
+/// The first word and what follows the space after it, or none without a space.
+pub fn first_word(line: &[u8]) -> Option<(&[u8], &[u8])> {
+    let space = line.iter().position(|&byte| byte == b' ')?;
+    Some((&line[..space], &line[space + 1..]))
 }
 
 /// The listing program.

@@ -1,9 +1,10 @@
-//! The trials: requests to write, to read, to code by either road, and the
-//! questions, one a line, each answered by a line.
+//! The trials: requests to write, to read, to code by either road, the questions,
+//! and messages to an account, one a line, each answered by a line.
 
 use std::io::{self, BufRead, Write};
 
 use super::code::{self, Fields, Rectangle, Refusal};
+use super::handed::{answer_handed, handed_of, Handed};
 use super::lines::{number, unit_of, words, Line, Lines};
 use super::questions::Question;
 use super::unit::{self, Road, Unit};
@@ -19,6 +20,7 @@ pub enum Request<'a> {
     Read { text: &'a [u8] },
     Code { road: Road, room: usize, unit: Unit },
     Ask(Question),
+    Message(Box<Handed<'a>>),
 }
 
 /// The request of a line, or none for a line of no such form.
@@ -26,6 +28,9 @@ pub fn request_of(line: &[u8]) -> Option<Request<'_>> {
     // The text may have spaces, so it is not taken as words.
     if let Some(text) = line.strip_prefix(b"read ") {
         return Some(Request::Read { text });
+    }
+    if let Some(rest) = line.strip_prefix(b"message ") {
+        return handed_of(rest).map(Box::new).map(Request::Message);
     }
     let mut words = words(line);
     let road = match words.next()? {
@@ -89,6 +94,7 @@ fn answer(request: &Request, output: &mut impl Write) -> io::Result<()> {
             answer_room(*room, output, |room| unit::code(unit, room, *road))
         }
         Request::Ask(question) => write!(output, "{}", u8::from(question.yes())),
+        Request::Message(handed) => answer_handed(handed, output),
     }
 }
 

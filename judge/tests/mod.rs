@@ -1,5 +1,6 @@
-//! The judge's tests: the document's cases, and what holds of all codes.
+//! The judge's tests: the document's cases, and what holds of all codes and accounts.
 
+mod accounts;
 pub mod cases;
 mod crossings;
 pub mod selftest;

@@ -5,7 +5,7 @@ use std::collections::BTreeSet;
 use std::io::{self, Write};
 
 use super::cases::cases;
-use super::{crossings, tails};
+use super::{accounts, crossings, tails};
 use crate::generators::borderedges::border_edges;
 use crate::generators::borders::borders;
 use crate::generators::borderunits::{border_roads, border_units};
@@ -44,39 +44,49 @@ pub fn agree(seed: u64, count: u64, output: &mut impl Write) -> io::Result<bool>
     Ok(true)
 }
 
+/// The tests by name.
+const TESTS: [(&str, fn() -> bool); 34] = [
+    ("letters", letters_good),
+    ("grid", grid_good),
+    ("meeting", meeting_good),
+    ("reading what writing wrote", round_trip_good),
+    ("rectangles around units", rectangles_good),
+    ("changes of the same ground", changes_good),
+    ("borders of reading and writing", borders_good),
+    ("borders of coding by both roads", roads_good),
+    ("borders of the listing", listing_good),
+    ("odd counts to the east and to the west", odd_good),
+    ("sides where cells start", sides_good),
+    ("inside and the plain search", inside_good),
+    ("borders of edges", edges_good),
+    ("answers of random questions", questions_good),
+    ("random units that reach the search", units_good),
+    ("crossed boundaries by hand", crossings::fixed_good),
+    ("31 between 5 and 6", crossings::order_good),
+    ("crossed boundaries by shared points", crossings::fractions_good),
+    ("changes of crossed ground", crossings::changes_good),
+    ("ways to be crossed and to miss it", crossings::makers_good),
+    ("places of the edges that meet", crossings::places_good),
+    ("random units for refusal 31", crossings::share_good),
+    ("long tails by hand", tails::fixed_good),
+    ("spans after a step and without one", tails::spans_good),
+    ("ways to have a long tail", tails::sorts_good),
+    ("random units with long tails", tails::share_good),
+    ("answers of an account", accounts::answers_good),
+    ("lowest and cleared places", accounts::places_good),
+    ("accounts that are refused 40", accounts::handed_in_good),
+    ("41, 42 and old in order", accounts::order_good),
+    ("full accounts", accounts::full_good),
+    ("active codes over a history", accounts::history_good),
+    ("fixed and random messages", accounts::requests_good),
+    ("fixed and random message lines", accounts::lines_good),
+];
+
 /// Runs every test; whether all are good.
 pub fn selftest(output: &mut impl Write) -> io::Result<bool> {
     let mut good = cases(output)?;
     good &= agree(1, 2_000, output)?;
-    let tests: [(&str, fn() -> bool); 26] = [
-        ("letters", letters_good),
-        ("grid", grid_good),
-        ("meeting", meeting_good),
-        ("reading what writing wrote", round_trip_good),
-        ("rectangles around units", rectangles_good),
-        ("changes of the same ground", changes_good),
-        ("borders of reading and writing", borders_good),
-        ("borders of coding by both roads", roads_good),
-        ("borders of the listing", listing_good),
-        ("odd counts to the east and to the west", odd_good),
-        ("sides where cells start", sides_good),
-        ("inside and the plain search", inside_good),
-        ("borders of edges", edges_good),
-        ("answers of random questions", questions_good),
-        ("random units that reach the search", units_good),
-        ("crossed boundaries by hand", crossings::fixed_good),
-        ("31 between 5 and 6", crossings::order_good),
-        ("crossed boundaries by shared points", crossings::fractions_good),
-        ("changes of crossed ground", crossings::changes_good),
-        ("ways to be crossed and to miss it", crossings::makers_good),
-        ("places of the edges that meet", crossings::places_good),
-        ("random units for refusal 31", crossings::share_good),
-        ("long tails by hand", tails::fixed_good),
-        ("spans after a step and without one", tails::spans_good),
-        ("ways to have a long tail", tails::sorts_good),
-        ("random units with long tails", tails::share_good),
-    ];
-    for (name, test) in tests {
+    for (name, test) in TESTS {
         let passed = test();
         writeln!(output, "{name} {}", if passed { "ok" } else { "FAILS" })?;
         good &= passed;
