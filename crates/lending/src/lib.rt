@@ -113,7 +113,8 @@ pub fn send_lent(
         return Lent { answer: 40, last };
     }
     let answered = send(kind, taken_in(high, low, active, last), text, number);
-    let answer = answer_code(answered.answer);
+    let said = answered.answer;
+    let answer = answer_code(said);
     let next = answered.account;
     let kept = next.high;
     hand_back(high, kept);
