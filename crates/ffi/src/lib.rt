@@ -1,17 +1,21 @@
-// The library for other languages: coding by either road, reading and writing under C's names. Each
-// function hands its input to the crate that does the work and says the reply in numbers. The
+// The library for other languages: coding by either road, reading, writing and the two messages to an
+// account under C's names. Each function hands its input to the crate that does the work and says the
+// reply in numbers; an account crosses as three lent arrays and its last number. The
 // definitions are in specs/: the replies in Replies.antt, their laws in Replying.antt, and in Once.antt
 // that no second reply would do.
 ghost use mathlib.Core.Path.{_≡_};
 ghost use Rattle.code.specs.Code.{reading, writing, tells as Code·tells, tellsNothing};
 ghost use Rattle.unit.specs.Unit.{kindOf, coding};
 ghost use Rattle.unit.specs.Frame.{says};
+ghost use Rattle.entitlements.specs.declared.Kind.the-variants.{Activate, Cancel};
+ghost use Rattle.lending.specs.Lending.{lends, lending};
 ghost use Rattle.ffi.specs.Replies.{said, leaves, tells};
 use code::Fields;
 use ground::Lat;
 use ground::Lon;
 use ground::Point;
 use ground::Rectangle;
+use lending::Lent;
 use unit::Coded;
 
 // What coding and writing answer: 0 and 0, or the number and the place of a refusal.
@@ -135,4 +139,51 @@ pub extern "C" fn linenspruce_write(room: &mut [u8], fields: Fields) -> Reply
         number: code::written_number(answer),
         place: 0,
     }
+}
+
+// Activates a code in a lent account: answers by number, and leaves the account afterwards in the arrays,
+// of which every length is answered.
+#[no_mangle]
+pub extern "C" fn linenspruce_activate(
+    high: &mut [u64],
+    low: &mut [u64],
+    active: &mut [u64],
+    last: u64,
+    text: &[u8],
+    number: u64,
+) -> Lent
+    ensures { λ r. ⌜ lends r (now (high .exit)) (now (low .exit)) (now (active .exit)) ≡ lending Activate (now (high .entry)) (now (low .entry)) (now (active .entry)) last (now (text .entry)) number ⌝ }
+{
+    lending::send_lent(
+        entitlements::Kind::Activate,
+        high,
+        low,
+        active,
+        last,
+        text,
+        number,
+    )
+}
+
+// Cancels a code, likewise.
+#[no_mangle]
+pub extern "C" fn linenspruce_cancel(
+    high: &mut [u64],
+    low: &mut [u64],
+    active: &mut [u64],
+    last: u64,
+    text: &[u8],
+    number: u64,
+) -> Lent
+    ensures { λ r. ⌜ lends r (now (high .exit)) (now (low .exit)) (now (active .exit)) ≡ lending Cancel (now (high .entry)) (now (low .entry)) (now (active .entry)) last (now (text .entry)) number ⌝ }
+{
+    lending::send_lent(
+        entitlements::Kind::Cancel,
+        high,
+        low,
+        active,
+        last,
+        text,
+        number,
+    )
 }
