@@ -1,7 +1,7 @@
-// Lets reading, writing, both roads and the boundary be tried from outside: a request a line on
-// standard input, an answer a line on standard output. A line that is no request is answered by `?`,
-// and a question by `1` for yes, `0` for no. A read or a write that fails ends the program, which says
-// so on standard error.
+// Lets reading, writing, both roads, the boundary and the account be tried from outside: a request a line
+// on standard input, an answer a line on standard output. A line that is no request is answered by `?`,
+// and a question by `1` for yes, `0` for no. A read or a write that fails ends the program, which says so
+// on standard error.
 //
 //     write ROOM LAT LON SCALE E W S N NUMBER     answers NUMBER PLACE and the room's bytes
 //     read TEXT                                   answers NUMBER PLACE, the fields and the sides
@@ -11,6 +11,8 @@
 //                                                 whether the edge from A to B meets the rectangle
 //     odd LAT LON COORDINATE..                    whether the point has an odd count
 //     inside LEVEL WEST SOUTH COORDINATE..        whether the cell is inside
+//     message KIND NUMBER ACCOUNT TEXT            answers a word or a number, and the account afterwards
+mod accounts;
 mod codes;
 mod questions;
 mod request;
@@ -19,8 +21,9 @@ mod road;
 use libc::STDIN_FILENO;
 use libc::STDOUT_FILENO;
 
-// More bytes than an answer has: with fewer left the output is written.
-const ANSWER: usize = 256;
+// More bytes than an answer has, with an account of 256 places in it: with fewer left the output is
+// written.
+const ANSWER: usize = 20000;
 
 // What goes from read to read: how many bytes of the line that comes in stand in the room, how many
 // bytes of the output wait to be written, and whether all writes went well.

@@ -2,6 +2,7 @@
 // that finds no request puts nothing and says the position that it got.
 ghost use Prim.Native.Nat.{_≤_};
 ghost use lib.ListN.{length};
+use crate::accounts;
 use crate::codes;
 use crate::questions;
 use crate::road;
@@ -48,6 +49,9 @@ fn answer(text: &[u8], out: &mut [u8], at: usize) -> usize {
     }
     if lines::starts(text, b"quick ") {
         return road::answer(Road::Quick, text, out, at);
+    }
+    if lines::starts(text, b"message ") {
+        return accounts::answer(text, out, at);
     }
     questions::answer(text, out, at)
 }

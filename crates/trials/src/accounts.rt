@@ -1,0 +1,253 @@
+// A message to an account: the answer to `message KIND NUMBER ACCOUNT TEXT`. ACCOUNT is `LAST COUNT` and
+// then for each place `PLACE ACTIVE HIGH LOW`, places rising; those that are not listed are all 0.
+use entitlements::Account;
+use entitlements::Answer;
+use entitlements::Answered;
+use entitlements::Kind;
+use numbers::Long;
+use places::PLACES;
+
+// What is asked: the message, and the last number and the count of places of the account.
+struct Asked {
+    kind: Kind,
+    number: u64,
+    last: u64,
+    count: u64,
+}
+
+// How far a place was read: the lowest place that may come next, and the position after it, which is the
+// text's end where no place stood.
+struct Listed {
+    next: u64,
+    end: usize,
+}
+
+pub(crate) fn answer(text: &[u8], out: &mut [u8], at: usize) -> usize {
+    if lines::starts(text, b"message A ") {
+        return answer_kind(Kind::Activate, text, out, at);
+    }
+    if lines::starts(text, b"message C ") {
+        return answer_kind(Kind::Cancel, text, out, at);
+    }
+    at
+}
+
+// The number that stands after one space at a position.
+fn after_space(text: &[u8], at: usize) -> Long {
+    if text.len() <= at {
+        return Long::Bad;
+    }
+    if text[at] != b' ' {
+        return Long::Bad;
+    }
+    numbers::long_at(text, at + 1)
+}
+
+// The answer to a request that names the kind.
+fn answer_kind(kind: Kind, text: &[u8], out: &mut [u8], at: usize) -> usize {
+    let number = numbers::long_at(text, 10);
+    let Long::At(number, end) = number else {
+        return at;
+    };
+    let last = after_space(text, end);
+    let Long::At(last, end) = last else {
+        return at;
+    };
+    let count = after_space(text, end);
+    let Long::At(count, end) = count else {
+        return at;
+    };
+    let asked = Asked {
+        kind,
+        number,
+        last,
+        count,
+    };
+    answer_asked(asked, text, end, out, at)
+}
+
+// The answer to a request whose places start at a position.
+fn answer_asked(asked: Asked, text: &[u8], from: usize, out: &mut [u8], at: usize) -> usize {
+    let mut high = [0u64; PLACES];
+    let mut low = [0u64; PLACES];
+    let mut active = [0u64; PLACES];
+    let end = fill(asked.count, text, from, &mut high, &mut low, &mut active);
+    if text.len() <= end {
+        return at;
+    }
+    if text[end] != b' ' {
+        return at;
+    }
+    let account = Account {
+        high,
+        low,
+        active,
+        last: asked.last,
+    };
+    let kind = asked.kind;
+    let answered = send(kind, account, &text[end + 1..], asked.number);
+    put_answered(answered, out, at)
+}
+
+// Fills in the places that a request lists, and says the position after them.
+fn fill(
+    count: u64,
+    text: &[u8],
+    from: usize,
+    high: &mut [u64],
+    low: &mut [u64],
+    active: &mut [u64],
+) -> usize {
+    let mut listed = Listed { next: 0, end: from };
+    let mut i = 0;
+    while i < count {
+        listed = fill_place(listed, text, high, low, active);
+        if text.len() <= listed.end {
+            return listed.end;
+        }
+        i += 1;
+    }
+    listed.end
+}
+
+// Fills in one place.
+fn fill_place(
+    before: Listed,
+    text: &[u8],
+    high: &mut [u64],
+    low: &mut [u64],
+    active: &mut [u64],
+) -> Listed {
+    let none = Listed {
+        next: 0,
+        end: text.len(),
+    };
+    let found = after_space(text, before.end);
+    let Long::At(place, end) = found else {
+        return none;
+    };
+    if place < before.next {
+        return none;
+    }
+    if place >= PLACES as u64 {
+        return none;
+    }
+    let end = fill_number(text, end, active, place as usize);
+    let end = fill_number(text, end, high, place as usize);
+    let end = fill_number(text, end, low, place as usize);
+    Listed {
+        next: place + 1,
+        end,
+    }
+}
+
+// Puts the number that stands after one space at a position into an array, and says the position after
+// it, which is the text's end where none stood.
+fn fill_number(text: &[u8], at: usize, array: &mut [u64], i: usize) -> usize {
+    let found = after_space(text, at);
+    let Long::At(number, end) = found else {
+        return text.len();
+    };
+    if i < array.len() {
+        array[i] = number;
+    }
+    end
+}
+
+fn send(kind: Kind, account: Account, text: &[u8], number: u64) -> Answered {
+    match kind {
+        Kind::Activate => message::activate(account, text, number),
+        Kind::Cancel => message::cancel(account, text, number),
+    }
+}
+
+// Puts the answer, and the account afterwards as a request states it.
+fn put_answered(answered: Answered, out: &mut [u8], at: usize) -> usize {
+    let answer = answered.answer;
+    let account = answered.account;
+    let end = put_answer(answer, out, at);
+    let end = put_number(out, end, account.last);
+    let high = account.high;
+    let low = account.low;
+    let active = account.active;
+    let end = put_number(out, end, count_listed(&high, &low, &active));
+    put_places(&high, &low, &active, out, end)
+}
+
+fn put_answer(answer: Answer, out: &mut [u8], at: usize) -> usize {
+    match answer {
+        Answer::Activated => room::put(out, at, b"activated"),
+        Answer::Already => room::put(out, at, b"already"),
+        Answer::Cancelled => room::put(out, at, b"cancelled"),
+        Answer::NotActive => room::put(out, at, b"not-active"),
+        Answer::Old => room::put(out, at, b"old"),
+        _ => output::put_decimal(out, at, entitlements::answer_number(answer) as u64),
+    }
+}
+
+fn put_number(out: &mut [u8], at: usize, n: u64) -> usize {
+    let end = room::put(out, at, b" ");
+    output::put_decimal(out, end, n)
+}
+
+// Whether a place is listed: its activity or a half is not 0.
+fn is_listed(active: u64, high: u64, low: u64) -> bool {
+    if active != 0 {
+        return true;
+    }
+    if high != 0 {
+        return true;
+    }
+    low != 0
+}
+
+// A count of places that are listed, with one more.
+fn counted(count: u64, active: u64, high: u64, low: u64) -> u64 {
+    if is_listed(active, high, low) {
+        return std::num::wrapping_add_u64(count, 1);
+    }
+    count
+}
+
+// How many places are listed.
+fn count_listed<'a>(
+    high: &'a [u64; PLACES],
+    low: &'a [u64; PLACES],
+    active: &'a [u64; PLACES],
+) -> u64 {
+    let mut count = 0;
+    let mut i = 0;
+    while i < PLACES {
+        count = counted(count, active[i], high[i], low[i]);
+        i += 1;
+    }
+    count
+}
+
+// Puts a place where it is listed.
+fn put_place(place: u64, active: u64, high: u64, low: u64, out: &mut [u8], at: usize) -> usize {
+    if !is_listed(active, high, low) {
+        return at;
+    }
+    let end = put_number(out, at, place);
+    let end = put_number(out, end, active);
+    let end = put_number(out, end, high);
+    put_number(out, end, low)
+}
+
+// Puts the places that are listed.
+fn put_places<'a>(
+    high: &'a [u64; PLACES],
+    low: &'a [u64; PLACES],
+    active: &'a [u64; PLACES],
+    out: &mut [u8],
+    at: usize,
+) -> usize {
+    let mut end = at;
+    let mut i = 0;
+    while i < PLACES {
+        end = put_place(i as u64, active[i], high[i], low[i], out, end);
+        i += 1;
+    }
+    end
+}
