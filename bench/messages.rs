@@ -44,7 +44,7 @@ impl Account {
         self.last
     }
 
-    /// An activation or a cancellation that is answered so, in this order.
+    /// An activation of a code that was never active or was cancelled.
     fn activated(&mut self, random: &mut Random) -> String {
         let code = draw(&mut self.others, random);
         let line = format!("A {} {code}", self.next_number(random));
@@ -52,6 +52,7 @@ impl Account {
         line
     }
 
+    /// A cancellation of a code that is active.
     fn cancelled(&mut self, random: &mut Random) -> String {
         let code = draw(&mut self.active, random);
         let line = format!("C {} {code}", self.next_number(random));
