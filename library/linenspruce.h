@@ -155,8 +155,8 @@ struct linenspruce_reply linenspruce_write(
     uint8_t *room, size_t room_length,
     struct linenspruce_fields fields);
 
-/* What a message is answered: its number in the table above, which is no reply's, and the last number
- * of the account afterwards. */
+/* What a message is answered: a number of the table of messages, where 1 to 5 are not those of coding, and
+ * the last number of the account afterwards. */
 struct linenspruce_lent {
     uint32_t answer;
     uint64_t last;
