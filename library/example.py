@@ -1,6 +1,9 @@
 """The library from Python: document 01's case 1 by both roads, its code read and written again, case 5,
-and refusals. It prints the lines of example.out, as example.c and example.rs do."""
-from linenspruce import CODE, Kind, code_plain, code_quick, read, write
+refusals, and messages to an account. It prints the lines of example.out, as example.c and example.rs
+do."""
+from array import array
+
+from linenspruce import CODE, PLACES, Account, Kind, activate, cancel, code_plain, code_quick, read, write
 
 # The square of case 1, a building with unit number 1: latitude, longitude, latitude, ..
 SQUARE = [294250496, 857567232, 294250496, 857569280, 294252544, 857569280, 294252544, 857567232]
@@ -74,6 +77,63 @@ def refused_reading_and_writing():
     show_write(22, fields._replace(number=1048576))
 
 
+# The codes of cases 1 and 5.
+CASE_1, CASE_5 = b"0W7ARCTDHYYRA99A0001", b"00000000001TH1120000"
+
+
+def show_answer(what, answer, account):
+    codes = b" ".join(account.codes()).decode("ascii")
+    print("%s %d %d [%s]" % (what, answer.value, account.last, codes))
+
+
+def show_activate(account, text, number):
+    show_answer("activate", account.activate(text, number), account)
+
+
+def show_cancel(account, text, number):
+    show_answer("cancel", account.cancel(text, number), account)
+
+
+def messages(account):
+    """Activated twice, already, old, cancelled, not active, and the free place used again."""
+    show_activate(account, CASE_1, 1)
+    show_activate(account, CASE_5, 2)
+    show_activate(account, CASE_1, 5)
+    show_activate(account, CASE_1, 5)
+    show_cancel(account, CASE_1, 6)
+    show_cancel(account, CASE_1, 7)
+    show_activate(account, CASE_1, 8)
+
+
+def refused_messages(account):
+    """A text with an O, an empty one, message numbers out of range, arrays of another length, empty
+    ones, and a code that is active twice."""
+    high, low, active = account.high, account.low, account.active
+    show_activate(account, b"00000000001TH112000O", 9)
+    show_cancel(account, b"", 9)
+    show_activate(account, CASE_5, 0)
+    show_cancel(account, CASE_5, 1099511627776)
+    answer, account.last = activate(high[:255], low, active, account.last, CASE_5, 9)
+    show_answer("activate", answer, account)
+    answer, account.last = cancel(array("Q"), array("Q"), array("Q"), account.last, CASE_5, 9)
+    show_answer("cancel", answer, account)
+    high[2], low[2], active[2] = high[1], low[1], 1
+    show_cancel(account, CASE_5, 9)
+
+
+def full():
+    """Buildings 1 to 257 of case 1's ground: the last finds the account full."""
+    account, fields, room = Account(), read(CASE_1).fields, bytearray(CODE)
+    for number in range(1, PLACES + 2):
+        write(room, fields._replace(number=number))
+        answer = account.activate(room, number)
+    print("activate %d %d [%d codes]" % (answer.value, account.last, len(account.codes())))
+
+
 accepted()
 refused_coding()
 refused_reading_and_writing()
+kept = Account()
+messages(kept)
+refused_messages(kept)
+full()

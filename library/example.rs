@@ -1,8 +1,10 @@
 //! The library from Rust: document 01's case 1 by both roads, its code read and written again, case 5,
-//! and refusals. It prints the lines of example.out, as example.c and example.py do.
+//! refusals, and messages to an account. It prints the lines of example.out, as example.c and example.py
+//! do.
 mod linenspruce;
 
-use linenspruce::{code_plain, code_quick, read, write, Fields, Kind, Reading, Reply, CODE};
+use linenspruce::{activate, cancel, code_plain, code_quick, read, write};
+use linenspruce::{Account, Answer, Fields, Kind, Reading, Reply, CODE, PLACES};
 
 /// The square of case 1, a building with unit number 1: latitude, longitude, latitude, ..
 const SQUARE: [u32; 8] = [
@@ -82,8 +84,72 @@ fn refused_reading_and_writing() {
     show_write(22, Fields { number: 1048576, ..fields });
 }
 
+/// The codes of cases 1 and 5.
+const CASE_1: &[u8] = b"0W7ARCTDHYYRA99A0001";
+const CASE_5: &[u8] = b"00000000001TH1120000";
+
+fn show_answer(what: &str, answer: Answer, account: &Account) {
+    let codes: Vec<[u8; CODE]> = account.codes().collect();
+    println!("{what} {} {} [{}]", answer as u32, account.last, String::from_utf8_lossy(&codes.join(&b' ')));
+}
+
+fn show_activate(account: &mut Account, text: &[u8], number: u64) {
+    show_answer("activate", account.activate(text, number), account);
+}
+
+fn show_cancel(account: &mut Account, text: &[u8], number: u64) {
+    show_answer("cancel", account.cancel(text, number), account);
+}
+
+/// Activated twice, already, old, cancelled, not active, and the free place used again.
+fn messages(account: &mut Account) {
+    show_activate(account, CASE_1, 1);
+    show_activate(account, CASE_5, 2);
+    show_activate(account, CASE_1, 5);
+    show_activate(account, CASE_1, 5);
+    show_cancel(account, CASE_1, 6);
+    show_cancel(account, CASE_1, 7);
+    show_activate(account, CASE_1, 8);
+}
+
+/// A text with an O, an empty one, message numbers out of range, slices of another length, empty ones, and
+/// a code that is active twice.
+fn refused_messages(account: &mut Account) {
+    show_activate(account, b"00000000001TH112000O", 9);
+    show_cancel(account, b"", 9);
+    show_activate(account, CASE_5, 0);
+    show_cancel(account, CASE_5, 1099511627776);
+    // The account's own arrays have no other length; those that are lent may.
+    let lent = activate(&mut account.high[..255], &mut account.low, &mut account.active, account.last, CASE_5, 9);
+    account.last = lent.last;
+    show_answer("activate", lent.answer, account);
+    let lent = cancel(&mut [], &mut [], &mut [], account.last, CASE_5, 9);
+    account.last = lent.last;
+    show_answer("cancel", lent.answer, account);
+    account.high[2] = account.high[1];
+    account.low[2] = account.low[1];
+    account.active[2] = 1;
+    show_cancel(account, CASE_5, 9);
+}
+
+/// Buildings 1 to 257 of case 1's ground: the last finds the account full.
+fn full() {
+    let (mut account, fields, mut room) = (Account::EMPTY, read(CASE_1).fields, [0; CODE]);
+    for number in 1..=PLACES as u32 + 1 {
+        write(&mut room, Fields { number, ..fields });
+        let answer = account.activate(&room, number.into());
+        if answer != Answer::Activated {
+            println!("activate {} {} [{} codes]", answer as u32, account.last, account.codes().count());
+        }
+    }
+}
+
 fn main() {
     accepted();
     refused_coding();
     refused_reading_and_writing();
+    let mut account = Account::EMPTY;
+    messages(&mut account);
+    refused_messages(&mut account);
+    full();
 }

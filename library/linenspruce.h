@@ -1,7 +1,8 @@
-/* Linenspruce for C and C++: codes of units by two roads, reading a code, writing one from its fields.
+/* Linenspruce for C and C++: codes of units by two roads, reading a code, writing one from its fields,
+ * and messages to an account of entitlements.
  *
  * Every call with pointers as described below is answered: nothing is asked of the numbers, the bytes,
- * the lengths or the room. The answer is a reply, a number and a place:
+ * the lengths or the room. The answer of coding, reading and writing is a reply, a number and a place:
  *
  *      0   accepted; the place is 0
  *
@@ -40,9 +41,38 @@
  * where none is named the place is 0. Acceptance of coding and of writing writes bytes 0 to 19 of the
  * room and no others. A refusal writes nothing. There is no byte 0 after a code.
  *
+ * An account is three arrays of 256 numbers, lent with each message, and a last number. Place i is active
+ * where active[i] is not 0, and then holds the code whose first ten letters are high[i] and whose last ten
+ * are low[i]: each ten letters as a number in base 32, first letter highest, by their places in
+ * 0123456789ABCDEFGHJKLMNPQRTUVWXY. What a free place holds says nothing. An empty account is three arrays
+ * of 256 zeros with the last number 0. The answer to a message is a number of its own:
+ *
+ *   a message (linenspruce_activate, linenspruce_cancel):
+ *     40   refused, the account: an array whose length is not 256, one code active twice, an active place
+ *          whose content is no code that reading accepts, or a last number above 1,099,511,627,775
+ *     41   refused, the message number: 0 or above 1,099,511,627,775
+ *     42   refused, the code: a text that reading refuses
+ *      5   old: the message number is not above the last number
+ *
+ *   and then, to an activation:
+ *      2   already: the code was active
+ *     43   refused, full: the code was not active, and all 256 places are
+ *      1   activated: the lowest free place has the code, and 1 in active
+ *
+ *   to a cancellation:
+ *      4   not active: the code was not active
+ *      3   cancelled: the code's place is 0 in all three arrays, and free again
+ *
+ * Again the first row that fits is told. Only 1 and 3 change the arrays, at that one place; after any
+ * other answer they hold what they held. 1, 2, 3, 4 and 43 use up the message number: it is the last
+ * number afterwards. After 5, 40, 41 and 42 the last number is as it was handed in. So the caller keeps
+ * the three arrays and, from each answer, the last number, and hands them in with the next message.
+ *
  * Pointers: a pointer and the length after it name that many elements of the caller's memory, aligned
- * as their type is, which nothing else writes meanwhile; a room lies apart from the numbers. Where the
- * length is 0 the pointer is not followed, and NULL will do.
+ * as their type is, which nothing else writes meanwhile; a room lies apart from the numbers, and the
+ * three arrays of an account from each other and from the text, and nothing else reads these meanwhile
+ * either. Where the length is 0 the pointer is not followed, and NULL will do; and where the length of one
+ * array of an account is not 256, none of the three is followed.
  *
  * Angles are whole numbers of 1/2048 arc second, north latitude and east longitude. */
 #ifndef LINENSPRUCE_H
@@ -57,6 +87,9 @@ extern "C" {
 
 /* A code's bytes. */
 #define LINENSPRUCE_CODE 20
+
+/* An account's places. */
+#define LINENSPRUCE_PLACES 256
 
 /* The number and the place of the table above. */
 struct linenspruce_reply {
@@ -121,6 +154,32 @@ struct linenspruce_reading linenspruce_read(const uint8_t *text, size_t text_len
 struct linenspruce_reply linenspruce_write(
     uint8_t *room, size_t room_length,
     struct linenspruce_fields fields);
+
+/* What a message is answered: a number of the table of messages, where 1 to 5 are not those of coding, and
+ * the last number of the account afterwards. */
+struct linenspruce_lent {
+    uint32_t answer;
+    uint64_t last;
+};
+
+/* Activates a code in an account: high, low, active and the last number are the account, text and number
+ * the message. Answers 1, 2, 5 and 40 to 43. */
+struct linenspruce_lent linenspruce_activate(
+    uint64_t *high, size_t high_length,
+    uint64_t *low, size_t low_length,
+    uint64_t *active, size_t active_length,
+    uint64_t last,
+    const uint8_t *text, size_t text_length,
+    uint64_t number);
+
+/* Cancels a code in an account. Answers 3, 4, 5 and 40 to 42. */
+struct linenspruce_lent linenspruce_cancel(
+    uint64_t *high, size_t high_length,
+    uint64_t *low, size_t low_length,
+    uint64_t *active, size_t active_length,
+    uint64_t last,
+    const uint8_t *text, size_t text_length,
+    uint64_t number);
 
 #ifdef __cplusplus
 }

@@ -1,9 +1,11 @@
-"""Linenspruce for Python: codes of units by two roads, reading a code, writing one from its fields.
+"""Linenspruce for Python: codes of units by two roads, reading a code, writing one from its fields, and
+messages to an account of entitlements.
 
-The replies are those of the table in linenspruce.h. Every list of numbers and every length is
-answered, empty ones among them. What is no such list, number or room is a TypeError or a ValueError
-before anything is called. For Python 3.8 and later on x86-64 Linux.
+The replies and answers are those of the tables in linenspruce.h. Every list of numbers and every
+length is answered, empty ones among them. What is no such list, number, room or array is a TypeError
+or a ValueError before anything is called. For Python 3.8 and later on x86-64 Linux.
 """
+import array
 import ctypes
 import enum
 import os
@@ -11,6 +13,12 @@ import typing
 
 # A code's bytes.
 CODE = 20
+
+# An account's places.
+PLACES = 256
+
+# The letters of a code, each at the place that is its number.
+LETTERS = b"0123456789ABCDEFGHJKLMNPQRTUVWXY"
 
 
 class Kind(enum.Enum):
@@ -57,6 +65,31 @@ class Reading(typing.NamedTuple):
     rectangle: Rectangle
 
 
+class Answer(enum.Enum):
+    """What a message is answered, by its number. 40 to 43 are refusals: the account, the message
+    number, the code, and full. As a str it is the words, or "refused" and the number."""
+
+    ACTIVATED = 1
+    ALREADY = 2
+    CANCELLED = 3
+    NOT_ACTIVE = 4
+    OLD = 5
+    ACCOUNT = 40
+    NUMBER = 41
+    CODE = 42
+    FULL = 43
+
+    def __str__(self):
+        return "refused %d" % self.value if self.value >= 40 else self.name.lower().replace("_", " ")
+
+
+class Lent(typing.NamedTuple):
+    """What a message to a lent account is answered, and the account's last number afterwards."""
+
+    answer: Answer
+    last: int
+
+
 def _struct(kind, base=ctypes.c_uint32):
     """The struct that C has for a tuple of numbers."""
     return type("_" + kind.__name__, (ctypes.Structure,), {"_fields_": [(f, base) for f in kind._fields]})
@@ -75,12 +108,18 @@ class _Kind(ctypes.Structure):
     _fields_ = [("letter", ctypes.c_uint8)]
 
 
+class _Lent(ctypes.Structure):
+    _fields_ = [("answer", ctypes.c_uint32), ("last", ctypes.c_uint64)]
+
+
 def _tuple(kind, struct):
     return kind(*(getattr(struct, f) for f in kind._fields))
 
 
 _ROOM = [ctypes.c_void_p, ctypes.c_size_t]
 _NUMBERS = [ctypes.c_void_p, ctypes.c_size_t]
+_TEXT = [ctypes.c_char_p, ctypes.c_size_t]
+_PLACES = [ctypes.c_void_p, ctypes.c_size_t]
 _library = None
 
 
@@ -94,10 +133,13 @@ def load(path=None):
     for road in (library.linenspruce_code_quick, library.linenspruce_code_plain):
         road.argtypes = _ROOM + _NUMBERS + [_Kind, ctypes.c_uint32]
         road.restype = _Reply
-    library.linenspruce_read.argtypes = [ctypes.c_char_p, ctypes.c_size_t]
+    library.linenspruce_read.argtypes = _TEXT
     library.linenspruce_read.restype = _Reading
     library.linenspruce_write.argtypes = _ROOM + [_Fields]
     library.linenspruce_write.restype = _Reply
+    for message in (library.linenspruce_activate, library.linenspruce_cancel):
+        message.argtypes = _PLACES * 3 + [ctypes.c_uint64] + _TEXT + [ctypes.c_uint64]
+        message.restype = _Lent
     _library = library
     return library
 
@@ -106,12 +148,13 @@ def _loaded():
     return _library or load()
 
 
-def _number(name, value):
-    """A number that C can take as it is: an int of 0 to 4,294,967,295, and not a bool."""
+def _number(name, value, end=1 << 32):
+    """A number that C can take as it is: an int of 0 to 4,294,967,295, or below another end, and not a
+    bool."""
     if type(value) is not int:
         raise TypeError("%s is an int, not %r" % (name, value))
-    if not 0 <= value < 1 << 32:
-        raise ValueError("%s is 0 to 4294967295, not %d" % (name, value))
+    if not 0 <= value < end:
+        raise ValueError("%s is 0 to %d, not %d" % (name, end - 1, value))
     return value
 
 
@@ -122,11 +165,28 @@ def _room(room):
     return (ctypes.c_uint8 * len(room)).from_buffer(room)
 
 
-def _numbers(numbers):
+def _listed(name, numbers, end=1 << 32):
     if isinstance(numbers, (str, bytes, bytearray, dict, set, frozenset)):
         raise TypeError("numbers are a list of ints, not %s" % type(numbers).__name__)
-    checked = [_number("a coordinate", n) for n in numbers]
+    return [_number(name, n, end) for n in numbers]
+
+
+def _numbers(numbers):
+    checked = _listed("a coordinate", numbers)
     return (ctypes.c_uint32 * len(checked))(*checked)
+
+
+def _text(text):
+    if not isinstance(text, (bytes, bytearray)):
+        raise TypeError("a text is bytes, not %s" % type(text).__name__)
+    return bytes(text)
+
+
+def _places(places):
+    """An array of the caller's own account, lent while the result lives."""
+    if not isinstance(places, array.array) or places.typecode != "Q":
+        raise TypeError("an account's places are an array of typecode Q, not %s" % type(places).__name__)
+    return (ctypes.c_uint64 * len(places)).from_buffer(places)
 
 
 def _kind(kind):
@@ -155,9 +215,8 @@ def code_plain(room, numbers, kind, number):
 
 def read(text):
     """Reads a code: its fields and its rectangle, or a refusal (11 to 18)."""
-    if not isinstance(text, (bytes, bytearray)):
-        raise TypeError("a text is bytes, not %s" % type(text).__name__)
-    told = _loaded().linenspruce_read(bytes(text), len(text))
+    lent = _text(text)
+    told = _loaded().linenspruce_read(lent, len(lent))
     return Reading(_tuple(Reply, told.reply), _tuple(Fields, told.fields), _tuple(Rectangle, told.rectangle))
 
 
@@ -169,3 +228,58 @@ def write(room, fields):
         raise TypeError("fields are a Fields, not %s" % type(fields).__name__)
     checked = _Fields(*(_number(name, value) for name, value in zip(Fields._fields, fields)))
     return _tuple(Reply, _loaded().linenspruce_write(lent, len(lent), checked))
+
+
+def _send(message, high, low, active, last, text, number):
+    lent = [(_places(places), len(places)) for places in (high, low, active)]
+    if high is low or low is active or active is high:
+        raise ValueError("an account's places are three arrays, each of its own")
+    last, text = _number("a last number", last, 1 << 64), _text(text)
+    number = _number("a message number", number, 1 << 64)
+    told = message(*lent[0], *lent[1], *lent[2], last, text, len(text), number)
+    return Lent(Answer(told.answer), told.last)
+
+
+def activate(high, low, active, last, text, number):
+    """Activates a code in an account that is lent as three arrays of typecode Q and its last number.
+    Arrays of another length than 256 are answered too: 40."""
+    return _send(_loaded().linenspruce_activate, high, low, active, last, text, number)
+
+
+def cancel(high, low, active, last, text, number):
+    """Cancels a code in a lent account, likewise."""
+    return _send(_loaded().linenspruce_cancel, high, low, active, last, text, number)
+
+
+class Account:
+    """An account of entitlements: three arrays and the last number, as linenspruce.h has them. It is
+    empty, or what another one had: numbers of 0 to 18,446,744,073,709,551,615, of any length."""
+
+    def __init__(self, high=(0,) * PLACES, low=(0,) * PLACES, active=(0,) * PLACES, last=0):
+        self.high, self.low, self.active = (
+            array.array("Q", _listed("a place's number", places, 1 << 64)) for places in (high, low, active)
+        )
+        self.last = _number("a last number", last, 1 << 64)
+
+    def activate(self, text, number):
+        """Activates a code, and answers an Answer."""
+        return self._keep(activate(self.high, self.low, self.active, self.last, text, number))
+
+    def cancel(self, text, number):
+        """Cancels a code, likewise."""
+        return self._keep(cancel(self.high, self.low, self.active, self.last, text, number))
+
+    def _keep(self, lent):
+        self.last = lent.last
+        return lent.answer
+
+    def codes(self):
+        """The active codes in the order of their places. In an account that is refused 40 they may be
+        no codes."""
+        places = zip(self.high, self.low, self.active)
+        return [_letters(high) + _letters(low) for high, low, active in places if active]
+
+
+def _letters(half):
+    """The ten letters of half a code."""
+    return bytes(LETTERS[half >> shift & 31] for shift in range(45, -1, -5))

@@ -1,9 +1,16 @@
-//! Linenspruce for Rust: codes of units by two roads, reading a code, writing one from its fields.
-//! The replies are those of the table in linenspruce.h. Every slice and every number is answered,
-//! empty slices among them. For Rust 1.63 and later, edition 2021, on x86-64 Linux.
+//! Linenspruce for Rust: codes of units by two roads, reading a code, writing one from its fields, and
+//! messages to an account of entitlements.
+//! The replies and answers are those of the tables in linenspruce.h. Every slice and every number is
+//! answered, empty slices among them. For Rust 1.63 and later, edition 2021, on x86-64 Linux.
 
 /// A code's bytes.
 pub const CODE: usize = 20;
+
+/// An account's places.
+pub const PLACES: usize = 256;
+
+/// The letters of a code, each at the place that is its number.
+const LETTERS: &[u8; 32] = b"0123456789ABCDEFGHJKLMNPQRTUVWXY";
 
 /// The number and the place of a reply. Number 0 is acceptance.
 #[repr(C)]
@@ -53,6 +60,36 @@ pub struct Reading {
     pub rectangle: Rectangle,
 }
 
+/// What a message is answered, by its number. The last four are refusals.
+#[derive(Clone, Copy, Debug, PartialEq, Eq)]
+pub enum Answer {
+    Activated = 1,
+    Already = 2,
+    Cancelled = 3,
+    NotActive = 4,
+    Old = 5,
+    Account = 40,
+    Number = 41,
+    Code = 42,
+    Full = 43,
+}
+
+/// What a message to a lent account is answered, and the account's last number afterwards.
+#[derive(Clone, Copy, Debug, PartialEq, Eq)]
+pub struct Lent {
+    pub answer: Answer,
+    pub last: u64,
+}
+
+/// An account of entitlements: three arrays and the last number, as linenspruce.h has them.
+#[derive(Clone, Debug, PartialEq, Eq)]
+pub struct Account {
+    pub high: [u64; PLACES],
+    pub low: [u64; PLACES],
+    pub active: [u64; PLACES],
+    pub last: u64,
+}
+
 /// The functions as C declares them.
 mod c {
     use super::{Fields, Reading, Reply};
@@ -60,6 +97,12 @@ mod c {
     #[repr(C)]
     pub struct Kind {
         pub letter: u8,
+    }
+
+    #[repr(C)]
+    pub struct Lent {
+        pub answer: u32,
+        pub last: u64,
     }
 
     #[link(name = "linenspruce", kind = "static")]
@@ -82,6 +125,30 @@ mod c {
         ) -> Reply;
         pub fn linenspruce_read(text: *const u8, text_length: usize) -> Reading;
         pub fn linenspruce_write(room: *mut u8, room_length: usize, fields: Fields) -> Reply;
+        pub fn linenspruce_activate(
+            high: *mut u64,
+            high_length: usize,
+            low: *mut u64,
+            low_length: usize,
+            active: *mut u64,
+            active_length: usize,
+            last: u64,
+            text: *const u8,
+            text_length: usize,
+            number: u64,
+        ) -> Lent;
+        pub fn linenspruce_cancel(
+            high: *mut u64,
+            high_length: usize,
+            low: *mut u64,
+            low_length: usize,
+            active: *mut u64,
+            active_length: usize,
+            last: u64,
+            text: *const u8,
+            text_length: usize,
+            number: u64,
+        ) -> Lent;
     }
 }
 
@@ -91,6 +158,24 @@ impl Kind {
             Kind::Building => c::Kind { letter: b'B' },
             Kind::Other => c::Kind { letter: b'F' },
         }
+    }
+}
+
+impl c::Lent {
+    fn told(self) -> Lent {
+        let answer = match self.answer {
+            1 => Answer::Activated,
+            2 => Answer::Already,
+            3 => Answer::Cancelled,
+            4 => Answer::NotActive,
+            5 => Answer::Old,
+            40 => Answer::Account,
+            41 => Answer::Number,
+            42 => Answer::Code,
+            43 => Answer::Full,
+            other => unreachable!("a message is answered {other}"),
+        };
+        Lent { answer, last: self.last }
     }
 }
 
@@ -123,4 +208,94 @@ pub fn read(text: &[u8]) -> Reading {
 /// Writes the code of fields into bytes 0 to 19 of the room, or refuses (21 to 25) and writes nothing.
 pub fn write(room: &mut [u8], fields: Fields) -> Reply {
     unsafe { c::linenspruce_write(room.as_mut_ptr(), room.len(), fields) }
+}
+
+/// Activates a code in an account that is lent as three slices and its last number. Slices of another
+/// length than 256 are answered too: 40.
+pub fn activate(
+    high: &mut [u64],
+    low: &mut [u64],
+    active: &mut [u64],
+    last: u64,
+    text: &[u8],
+    number: u64,
+) -> Lent {
+    let lent = unsafe {
+        c::linenspruce_activate(
+            high.as_mut_ptr(),
+            high.len(),
+            low.as_mut_ptr(),
+            low.len(),
+            active.as_mut_ptr(),
+            active.len(),
+            last,
+            text.as_ptr(),
+            text.len(),
+            number,
+        )
+    };
+    lent.told()
+}
+
+/// Cancels a code in a lent account, likewise.
+pub fn cancel(
+    high: &mut [u64],
+    low: &mut [u64],
+    active: &mut [u64],
+    last: u64,
+    text: &[u8],
+    number: u64,
+) -> Lent {
+    let lent = unsafe {
+        c::linenspruce_cancel(
+            high.as_mut_ptr(),
+            high.len(),
+            low.as_mut_ptr(),
+            low.len(),
+            active.as_mut_ptr(),
+            active.len(),
+            last,
+            text.as_ptr(),
+            text.len(),
+            number,
+        )
+    };
+    lent.told()
+}
+
+impl Account {
+    pub const EMPTY: Account =
+        Account { high: [0; PLACES], low: [0; PLACES], active: [0; PLACES], last: 0 };
+
+    /// Activates a code.
+    pub fn activate(&mut self, text: &[u8], number: u64) -> Answer {
+        let lent = activate(&mut self.high, &mut self.low, &mut self.active, self.last, text, number);
+        self.last = lent.last;
+        lent.answer
+    }
+
+    /// Cancels a code.
+    pub fn cancel(&mut self, text: &[u8], number: u64) -> Answer {
+        let lent = cancel(&mut self.high, &mut self.low, &mut self.active, self.last, text, number);
+        self.last = lent.last;
+        lent.answer
+    }
+
+    /// The active codes in the order of their places. In an account that is refused 40 they may be no
+    /// codes.
+    pub fn codes(&self) -> impl Iterator<Item = [u8; CODE]> + '_ {
+        let code = move |place: usize| letters(self.high[place], self.low[place]);
+        (0..PLACES).filter(move |&place| self.active[place] != 0).map(code)
+    }
+}
+
+/// The letters of a code from its halves, ten each.
+fn letters(high: u64, low: u64) -> [u8; CODE] {
+    let letter = |half: u64, place: usize| LETTERS[(half >> (45 - 5 * place) & 31) as usize];
+    let mut code = [0; CODE];
+    for place in 0..10 {
+        code[place] = letter(high, place);
+        code[10 + place] = letter(low, place);
+    }
+    code
 }

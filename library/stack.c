@@ -1,7 +1,8 @@
 /* How much stack a call takes: each is made on a stack of its own that was filled with one byte before, and
  * what no longer has it was used. The unit is a diagonal of 1° with 1,024 corners, narrower than a cell of
  * the finest level, so that the quick road makes its largest rooms and goes down to the last halving; the
- * plain road, which would take too long on it, is asked for a small unit. library/try runs it. */
+ * plain road, which would take too long on it, is asked for a small unit. A message goes to a full account
+ * and is answered 43. library/try runs it. */
 #define _POSIX_C_SOURCE 200809L
 #include "linenspruce.h"
 
@@ -10,7 +11,7 @@
 #include <stdlib.h>
 #include <string.h>
 
-enum { CORNERS = 1024, DEGREE = 7372800, STACK = 1 << 20, FILL = 0xA5 };
+enum { CORNERS = 1024, PLACES = LINENSPRUCE_PLACES, DEGREE = 7372800, STACK = 1 << 20, FILL = 0xA5 };
 
 static uint32_t thin[2 * CORNERS];
 static const uint32_t small[] = { 0, 0, 0, 960, 32, 960, 32, 0 };
@@ -39,6 +40,26 @@ static void *read_and_write(void *said) {
     return said;
 }
 
+static uint64_t high[PLACES], low[PLACES], active[PLACES];
+
+static struct linenspruce_lent activate(const uint8_t *code, uint64_t number) {
+    return linenspruce_activate(high, PLACES, low, PLACES, active, PLACES, number - 1, code, 20, number);
+}
+
+/* The code of a unit number. */
+static void numbered(uint8_t *room, uint32_t number) {
+    struct linenspruce_fields fields = { 0, 0, 27, 2, 1, 1, 2, 0 };
+    fields.number = number;
+    linenspruce_write(room, 20, fields);
+}
+
+static void *message(void *said) {
+    uint8_t room[20];
+    numbered(room, PLACES + 1);
+    ((struct linenspruce_reply *)said)->number = activate(room, PLACES + 1).answer;
+    return said;
+}
+
 /* The bytes of stack that a thread takes which does this alone. */
 static size_t taken(void *(*work)(void *), struct linenspruce_reply *said) {
     pthread_attr_t attr;
@@ -55,17 +76,23 @@ static size_t taken(void *(*work)(void *), struct linenspruce_reply *said) {
 }
 
 int main(void) {
-    struct linenspruce_reply of_quick = { 0 }, of_plain = { 0 }, of_both = { 0 }, none = { 0 };
-    size_t i, half = CORNERS / 2, own, most;
+    struct linenspruce_reply of_quick = { 0 }, of_plain = { 0 }, of_both = { 0 }, of_message = { 0 }, none = { 0 };
+    uint8_t code[20];
+    size_t i, half = CORNERS / 2, own, most, sent;
     for (i = 0; i < half; i++) {
         uint32_t at = (uint32_t)(i * (DEGREE - 16) / (half - 1));
         thin[2 * i] = at, thin[2 * i + 1] = at + 16;
         thin[2 * (CORNERS - 1 - i)] = at + 16, thin[2 * (CORNERS - 1 - i) + 1] = at;
     }
+    for (i = 1; i <= PLACES; i++) numbered(code, (uint32_t)i), activate(code, i);
     own = taken(nothing, &none);
     most = taken(quick, &of_quick) - own;
-    printf("library: the quick road took %lu KiB of stack, the plain road %lu KiB, reading and writing %lu KiB\n",
+    sent = taken(message, &of_message) - own;
+    printf("library: the quick road took %lu KiB of stack, the plain road %lu KiB, reading and writing %lu KiB, "
+           "a message %lu KiB\n",
            (unsigned long)(most / 1024 + 1), (unsigned long)((taken(plain, &of_plain) - own) / 1024 + 1),
-           (unsigned long)((taken(read_and_write, &of_both) - own) / 1024 + 1));
-    return of_quick.number != 7 || of_plain.number != 0 || of_both.number != 0 || most > 192 * 1024;
+           (unsigned long)((taken(read_and_write, &of_both) - own) / 1024 + 1),
+           (unsigned long)(sent / 1024 + 1));
+    return of_quick.number != 7 || of_plain.number != 0 || of_both.number != 0 || of_message.number != 43
+        || most > 192 * 1024 || sent > 192 * 1024;
 }

@@ -1,8 +1,11 @@
 """Calls that are wrong in their types, those that only C's types let through, and very long ones. Each of
-the first is a TypeError or a ValueError, and the room stays as it was; the others have their defined
-replies."""
+the first is a TypeError or a ValueError, and the room or the account stays as it was; the others have
+their defined replies and answers."""
+from array import array
+
 import linenspruce
-from linenspruce import Fields, Kind, Reply, code_plain, code_quick, read, write
+from linenspruce import PLACES, Account, Answer, Fields, Kind, Lent, Reply
+from linenspruce import activate, cancel, code_plain, code_quick, read, write
 
 SQUARE = [294250496, 857567232, 294250496, 857569280, 294252544, 857569280, 294252544, 857567232]
 CASE_1 = b"0W7ARCTDHYYRA99A0001"
@@ -15,6 +18,8 @@ NO_ROOM = [None, 20, b"." * 20, "." * 20, [0] * 20, memoryview(bytearray(20))]
 NO_KIND = [None, "B", b"B", 66, True]
 NO_TEXT = [None, 20, "0W7ARCTDHYYRA99A0001", [48] * 20]
 NO_FIELDS = [None, tuple(GOOD), list(GOOD), GOOD._asdict()]
+NO_LONG = NO_NUMBER[:-1] + [(1 << 64, ValueError)]
+NO_PLACES = [None, 256, [0] * 256, bytearray(2048), array("I", [0] * 256), array("q", [0] * 256), memoryview(array("Q", [0] * 256))]
 
 tried = 0
 
@@ -56,6 +61,33 @@ def wrong_writing():
         refuses(TypeError, room, write, room, fields)
 
 
+def wrong_messages(message):
+    account = Account()
+    account.activate(CASE_1, 1)
+    good = [account.high, account.low, account.active, 1, CASE_1, 2]
+    before = [bytes(places) for places in good[:3]]
+
+    def refuses_at(error, place, value):
+        refuses(error, None, message, *good[:place], value, *good[place + 1:])
+        assert [bytes(places) for places in good[:3]] == before
+
+    for place in range(3):
+        for other in NO_PLACES:
+            refuses_at(TypeError, place, other)
+        # One array twice.
+        refuses_at(ValueError, place, good[(place + 1) % 3])
+    for value, error in NO_LONG:
+        refuses_at(error, 3, value)
+        refuses_at(error, 5, value)
+    for text in NO_TEXT:
+        refuses_at(TypeError, 4, text)
+    for places in NO_NUMBERS:
+        refuses(TypeError, None, Account, places)
+    for value, error in NO_LONG:
+        refuses(error, None, Account, [0] * 255 + [value])
+        refuses(error, None, Account, [0], [0], [0], value)
+
+
 def every_letter(library):
     """`B` is a building, and every other byte is other kind: with unit number 1 that is refused 6."""
     global tried
@@ -64,6 +96,28 @@ def every_letter(library):
             room, numbers = linenspruce._room(bytearray(20)), linenspruce._numbers(SQUARE)
             reply = road(room, 20, numbers, 8, linenspruce._Kind(letter), 1)
             assert reply.number == (0 if letter == ord("B") else 6), letter
+            tried += 1
+
+
+def other_lengths(message, sent):
+    """Accounts whose arrays have other lengths: 40, and all is as it was. The last ones name more than any
+    memory has, and are not followed."""
+    global tried
+    for place in range(3):
+        for length in (0, 1, 255, 257, 512, LONG):
+            lengths = [PLACES] * 3
+            lengths[place] = length
+            lent = [array("Q", [7] * length) for length in lengths]
+            assert message(*lent, (1 << 64) - 1, CASE_1, 1) == Lent(Answer.ACCOUNT, (1 << 64) - 1)
+            assert all(set(places) <= {7} for places in lent)
+            tried += 1
+        for length in (1 << 32, (1 << 32) + PLACES, 1 << 61, (1 << 61) + PLACES, (1 << 64) - PLACES, (1 << 64) - 1):
+            lent = [array("Q", [0] * PLACES) for _ in range(3)]
+            words = [word for places in lent for word in (linenspruce._places(places), PLACES)]
+            words[2 * place + 1] = length
+            told = sent(*words, 5, CASE_1, 20, 6)
+            assert (told.answer, told.last) == (40, 5)
+            assert not any(map(any, lent))
             tried += 1
 
 
@@ -76,7 +130,11 @@ def no_pointer(library):
         assert road(linenspruce._room(bytearray(20)), 20, None, 0, building, 1).number == 3
     assert library.linenspruce_read(None, 0).reply.number == 11
     assert library.linenspruce_write(None, 0, linenspruce._Fields(*GOOD)).number == 21
-    tried += 6
+    lent = [word for _ in range(3) for word in ((linenspruce.ctypes.c_uint64 * PLACES)(), PLACES)]
+    for message in (library.linenspruce_activate, library.linenspruce_cancel):
+        assert message(None, 0, None, 0, None, 0, 7, None, 0, 8).answer == 40
+        assert message(*lent, 7, None, 0, 8).answer == 42
+    tried += 10
 
 
 def long_ones(road):
@@ -99,6 +157,8 @@ def long_ones(road):
 wrong_coding(code_quick)
 wrong_coding(code_plain)
 wrong_writing()
+wrong_messages(activate)
+wrong_messages(cancel)
 for other_text in NO_TEXT:
     refuses(TypeError, None, read, other_text)
 refuses(OSError, None, linenspruce.load, "no/such/library.so")
@@ -106,6 +166,10 @@ refuses(OSError, None, linenspruce.load, "no/such/library.so")
 right = bytearray(20)
 assert code_quick(right, tuple(SQUARE), Kind.BUILDING, 1) == Reply(0, 0) and right == CASE_1
 every_letter(linenspruce.load())
+other_lengths(activate, linenspruce.load().linenspruce_activate)
+other_lengths(cancel, linenspruce.load().linenspruce_cancel)
+assert Account().activate(b"0" * LONG, 1) == Account().cancel(bytearray(LONG), 1) == Answer.CODE
+assert [str(answer) for answer in Answer][2:6] == ["cancelled", "not active", "old", "refused 40"]
 no_pointer(linenspruce.load())
 long_ones(code_quick)
 long_ones(code_plain)
