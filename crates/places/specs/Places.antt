@@ -19,6 +19,10 @@ isFree active i = eqb (getD active i 0) 0
 abbrev pub codeOn : List ℕ → List ℕ → ℕ → Halves
 codeOn high low i = record { high = getD high i 0; low = getD low i 0 }
 
+-- Whether a place has this low half
+abbrev pub hasLow : List ℕ → ℕ → ℕ → Bool
+hasLow low half i = eqb (getD low i 0) half
+
 -- Whether a code is active at a place
 abbrev pub holds : List ℕ → List ℕ → List ℕ → Halves → ℕ → Bool
 holds high low active code i = not (isFree active i) && sameCode (codeOn high low i) code

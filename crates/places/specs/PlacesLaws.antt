@@ -4,9 +4,14 @@ use native.Mathlib.Nat.{eq-or-lt-of-le}
 use native.Mathlib.Omega.{arith}
 use mathlib.Core.Path.{_≡_, refl, sym, subst, _∙_}
 use mathlib.Core.Logic.{_⊎_, inl, inr}
-use mathlib.Core.Bool.{Bool, true, false, cond, true≢false}
+use mathlib.Core.Bool.{Bool, true, false, cond, not, true≢false}
+use mathlib.Core.List.{List}
+use lib.Dec.{eqb}
+use lib.ListN.{getD}
 use Rattle.facts.specs.Numbers.{either-way, not-above}
-use Rattle.places.specs.Places.{places, lowestFrom, lowestPlace}
+use Rattle.facts.specs.Tests.{fails-right}
+use Rattle.halves.specs.declared.Halves.{Halves}
+use Rattle.places.specs.Places.{places, isFree, hasLow, holds, lowestFrom, lowestPlace}
 
 -- A number is the lowest of n from one on that passes a test
 record Lowest (test : ℕ → Bool) (from n i : ℕ) : Type 0 where
@@ -97,3 +102,19 @@ module _ {test : ℕ → Bool} where
       at (inl k) = omega (arith, k, h, lowest-most test)
       at (inr k) =
           absurd (true≢false (sym (lowest-passes test (omega (arith, p .within))) ∙ p .none (lowestPlace test) k))
+
+-- Two tests of which the second passes nowhere that the first does not: below the first's lowest place none passes the second
+none-below : (test other : ℕ → Bool) → ((k : ℕ) → test k ≡ false → other k ≡ false) → NoneBelow other (lowestPlace test)
+none-below test other so = record { within = lowest-most test; none = λ k h. so k (lowest-before test k h) }
+
+-- A code is active nowhere that has another low half
+other-low : (high low active : List ℕ) (code : Halves) (k : ℕ) → hasLow low (code .low) k ≡ false → holds high low active code k ≡ false
+other-low high low active code k e =
+    fails-right (not (isFree active k)) (fails-right (eqb (getD high k 0) (code .high)) e)
+
+-- so it is active at no place below the lowest that has its own
+pub code-below : (high low active : List ℕ) (code : Halves) {first : ℕ} → first ≡ lowestPlace (hasLow low (code .low))
+    → NoneBelow (holds high low active code) first
+code-below high low active code e =
+    subst (NoneBelow (holds high low active code)) (sym e)
+    (none-below (hasLow low (code .low)) (holds high low active code) (other-low high low active code))

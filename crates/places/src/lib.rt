@@ -3,7 +3,7 @@
 ghost use mathlib.Core.Path.{_≡_};
 ghost use mathlib.Core.Bool.{not, _&&_};
 ghost use lib.Dec.{eqb};
-ghost use Rattle.places.specs.Places.{isFree, holds, lowestPlace};
+ghost use Rattle.places.specs.Places.{isFree, hasLow, holds, lowestPlace};
 use halves::Halves;
 
 // How many places an account has.
@@ -23,18 +23,13 @@ pub fn free_place(active: &[u64; PLACES]) -> usize
     i
 }
 
-// The lowest place at which a code is active.
-pub fn code_place<'a>(
-    high: &'a [u64; PLACES],
-    low: &'a [u64; PLACES],
-    active: &'a [u64; PLACES],
-    code: Halves,
-) -> usize
-    ensures { λ r. ⌜ r ≡ lowestPlace (holds (now (high .entry)) (now (low .entry)) (now (active .entry)) code) ⌝ }
+// The lowest place whose low half is this one, whatever else it holds.
+fn low_place(low: &[u64; PLACES], half: u64) -> usize
+    ensures { λ r. ⌜ r ≡ lowestPlace (hasLow (now (low .entry)) half) ⌝ }
 {
     let mut i = 0;
     while i < PLACES {
-        if has(active[i], high[i], low[i], code) {
+        if low[i] == half {
             return i;
         }
         i += 1;
@@ -53,4 +48,43 @@ fn has(active: u64, high: u64, low: u64, code: Halves) -> bool
         return false;
     }
     low == code.low
+}
+
+// The lowest place at which a code is active, looked for place by place.
+fn full_search<'a>(
+    high: &'a [u64; PLACES],
+    low: &'a [u64; PLACES],
+    active: &'a [u64; PLACES],
+    code: Halves,
+) -> usize
+    ensures { λ r. ⌜ r ≡ lowestPlace (holds (now (high .entry)) (now (low .entry)) (now (active .entry)) code) ⌝ }
+{
+    let mut i = 0;
+    while i < PLACES {
+        if has(active[i], high[i], low[i], code) {
+            return i;
+        }
+        i += 1;
+    }
+    i
+}
+
+// The lowest place at which a code is active. Few places have the same low half, so that one comparison a
+// place nearly always decides; a free place may hold anything, and then all is looked at.
+pub fn code_place<'a>(
+    high: &'a [u64; PLACES],
+    low: &'a [u64; PLACES],
+    active: &'a [u64; PLACES],
+    code: Halves,
+) -> usize
+    ensures { λ r. ⌜ r ≡ lowestPlace (holds (now (high .entry)) (now (low .entry)) (now (active .entry)) code) ⌝ }
+{
+    let first = low_place(low, code.low);
+    if first >= PLACES {
+        return first;
+    }
+    if has(active[first], high[first], low[first], code) {
+        return first;
+    }
+    full_search(high, low, active, code)
 }

@@ -45,14 +45,14 @@ returns-4 c =
 enum-told-2 : tie.Need-enum-told-2
 enum-told-2 c = search needs
 
-activation-requires : tie.Need-activation-requires
-activation-requires c κs = search needs
+cancellation-requires : tie.Need-cancellation-requires
+cancellation-requires c κs = search needs
 
 enum-told-3 : tie.Need-enum-told-3
 enum-told-3 c = search needs
 
-cancellation-requires : tie.Need-cancellation-requires
-cancellation-requires c κs = search needs
+activation-requires : tie.Need-activation-requires
+activation-requires c κs = search needs
 
 returns-5 : tie.Need-returns-5
 returns-5 c =
@@ -61,7 +61,7 @@ returns-5 c =
     let most = c .before .before .before .before .before .before .before .before .before .if2 .left in
     let read = sym (c .before .before .before .before .before .before .before .before .code-in .ensures) ∙ c .before .before .before .before .before .before .read .given .1 in
     let acts = processing-acts (asked .kind) (asked .account) (asked .text .now) (asked .number) some most read (c .before .before .before .if3 .left) in
-    c .activation .ensures
+    c .cancellation .ensures
     ∙ ap (λ (kind : Kind). acting kind (asked .account) (c .before .before .before .before .before .before .read .given .0 .0) (asked .number)) (sym (c .before .enum-told2 .given .1))
     ∙ sym acts
 
@@ -72,7 +72,7 @@ returns-6 c =
     let most = c .before .before .before .before .before .before .before .before .before .if2 .left in
     let read = sym (c .before .before .before .before .before .before .before .before .code-in .ensures) ∙ c .before .before .before .before .before .before .read .given .1 in
     let acts = processing-acts (asked .kind) (asked .account) (asked .text .now) (asked .number) some most read (c .before .before .before .if3 .left) in
-    c .cancellation .ensures
+    c .activation .ensures
     ∙ ap (λ (kind : Kind). acting kind (asked .account) (c .before .before .before .before .before .before .read .given .0 .0) (asked .number)) (sym (c .before .enum-told3 .given .1))
     ∙ sym acts
 
@@ -88,8 +88,8 @@ process-spec =
     returns-3
     returns-4
     enum-told-2
-    activation-requires
-    enum-told-3
     cancellation-requires
     returns-5
+    enum-told-3
+    activation-requires
     returns-6)
