@@ -50,8 +50,8 @@ fn post_line(number: u64, account: Account, line: &[u8], out: &mut [u8], at: usi
     let answered = processing::process(kind, account, &line[start..], message);
     let answer = answered.answer;
     let put = put_answer(out, at, number, answer);
-    let account = answered.account;
-    Posted { account, put }
+    let next = answered.account;
+    Posted { account: next, put }
 }
 
 // The reply to a line whose message has an answer: its words, or the number of its refusal.
