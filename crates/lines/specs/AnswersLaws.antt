@@ -1,5 +1,5 @@
--- The laws of lines answered one after the other: where no state changes, the replies are those of the page; an answer that goes by a
--- line's first bytes. Assumes nothing.
+-- The laws of lines answered one after the other: where no state changes, the replies are those of the page; two ways to answer that
+-- agree; an answer that goes by a line's first bytes. Assumes nothing.
 use Prim.Native.Nat.{ℕ, _+_, _≤_, _<_}
 use native.Mathlib.Omega.{arith}
 use mathlib.Core.Path.{_≡_, refl, sym, ap, _∙_}
@@ -9,7 +9,7 @@ use lib.ListN.{length, take, length-take}
 use lib.Seq.{take-all}
 use Rattle.facts.specs.Numbers.{either-way}
 use Rattle.lines.specs.Lines.{Reply, replyLine, replies, linesOf, outputOf}
-use Rattle.lines.specs.Answers.{Answered, Answering, repliesFrom, outputFrom, always}
+use Rattle.lines.specs.Answers.{Answered, Answering, repliesFrom, stateFrom, outputFrom, always}
 
 -- what is said of a line whatever came before it: the replies are the page's
 module _ (said : List ℕ → Reply) where
@@ -21,6 +21,28 @@ module _ (said : List ℕ → Reply) where
   pub output-always : (input : List ℕ) → outputFrom (always said) tt input ≡ outputOf said input
   unfolding outputFrom outputOf
   output-always input = replies-always 1 (linesOf input)
+
+-- two ways to answer that agree in certain states, which answers do not leave: from such a state on the replies are the same
+module _ {S : Type 0} (one other : Answering S) (Certain : S → Type 0)
+    (kept : (s : S) (line : List ℕ) → Certain s → Certain (one s line .state))
+    (agree : (s : S) (line : List ℕ) → Certain s → one s line ≡ other s line) where
+  replies-agree : (s : S) (number : ℕ) (lines : List (List ℕ)) → Certain s → repliesFrom one s number lines ≡ repliesFrom other s number lines
+  unfolding repliesFrom
+  replies-agree s number [] c = refl
+  replies-agree s number (line ∷ lines) c =
+      ap (λ (t : List ℕ). replyLine number (one s line .reply) ++ t) (replies-agree (one s line .state) (number + 1) lines (kept s line c))
+      ∙ ap (λ (a : Answered S). replyLine number (a .reply) ++ repliesFrom other (a .state) (number + 1) lines) (agree s line c)
+
+  pub output-agree : (s : S) (input : List ℕ) → Certain s → outputFrom one s input ≡ outputFrom other s input
+  unfolding outputFrom
+  output-agree s input c = replies-agree s 1 (linesOf input) c
+
+  -- and so is the state at the end
+  pub state-agree : (s : S) (lines : List (List ℕ)) → Certain s → stateFrom one s lines ≡ stateFrom other s lines
+  unfolding stateFrom
+  state-agree s [] c = refl
+  state-agree s (line ∷ lines) c =
+      state-agree (one s line .state) lines (kept s line c) ∙ ap (λ (a : Answered S). stateFrom other (a .state) lines) (agree s line c)
 
 -- in every state the answer to a line goes by its first `size` bytes, of which there are some
 pub record ByFirst {S : Type 0} (says : Answering S) (size : ℕ) : Type 0 where

@@ -1,18 +1,19 @@
--- The laws of lines of messages: what a line that starts with a letter and a space is, and one that does not; and worked examples.
--- Assumes nothing.
-use Prim.Native.Nat.{ℕ}
+-- The laws of lines of messages: what a line that starts with a letter and a space is, and one that does not; where its text stands;
+-- and worked examples. Assumes nothing.
+use Prim.Native.Nat.{ℕ, suc, _+_, _-_, _≤_}
 use native.Mathlib.Omega.{arith}
-use mathlib.Core.Path.{_≡_, refl}
-use mathlib.Core.Bool.{Bool, true, false, _&&_, and-true}
+use mathlib.Core.Path.{_≡_, refl, ap, _∙_}
+use mathlib.Core.Bool.{Bool, true, false, cond, _&&_, and-true}
 use mathlib.Core.List.{List, [], _∷_, map}
-use lib.ListN.{drop, replicate}
+use lib.ListN.{length, drop, replicate}
+use lib.Seq.{drop-drop}
 use lib.Dec.{eqb}
 use borrow.Author.Tests.{eqb-true}
 use Rattle.facts.specs.Tests.{both}
 use Rattle.facts.specs.Texts.{bytes}
-use Rattle.lines.specs.Lines.{valueAfter, isWithin}
+use Rattle.lines.specs.Lines.{valueAfter, value, isWithin}
 use Rattle.lines.specs.Starts.{startsWith}
-use Rattle.lines.specs.Messages.{isLong, Parted, parted, unparted, led, part, message, notOfThisForm, isLetter, numbered, lettered, messageOf}
+use Rattle.lines.specs.Messages.{isLong, Parted, parted, unparted, led, part, Message, message, notOfThisForm, isLetter, numbered, lettered, messageOf}
 
 -- a line that starts with a byte and a space
 starts-part : (b : ℕ) → eqb b 32 ≡ false → (line : List ℕ) → startsWith line (b ∷ 32 ∷ []) ≡ true → part line ≡ parted (b ∷ []) (drop 2 line)
@@ -53,6 +54,74 @@ message-none (x ∷ y ∷ t) a c = pick (eqb x 32) (eqb y 32) refl refl
         let second : eqb x 67 ≡ false = rw (q, and-true) at c in
         rw (p, q, first, second)
     pick false false p q = rw (p, q) (long-word x y (part t))
+
+-- ---- the text of a message is the rest of its line
+
+-- a text that a line ends with
+pub record Ends (text line : List ℕ) : Type 0 where
+  pub fits : length text ≤ length line
+  pub rest : text ≡ drop (length line - length text) line
+
+-- by the position where it starts
+ends-from : (at : ℕ) {text line : List ℕ} → length text + at ≡ length line → text ≡ drop at line → Ends text line
+ends-from at {text} {line} h e =
+    let start : at ≡ length line - length text = omega (arith, h) in
+    record { fits = omega (arith, h); rest = e ∙ ap (λ (k : ℕ). drop k line) start }
+
+-- a line that is longer in front, and the end of an end
+ends-longer : (b : ℕ) {text line : List ℕ} → Ends text line → Ends text (b ∷ line)
+ends-longer b {text} {line} so = ends-from (suc (length line - length text)) (omega (arith, so .fits)) (so .rest)
+
+ends-twice : {text rest line : List ℕ} → Ends text rest → Ends rest line → Ends text line
+ends-twice {text} {rest} {line} a b =
+    let i : ℕ = length rest - length text in
+    let j : ℕ = length line - length rest in
+    ends-from (j + i) (omega (arith, a .fits, b .fits)) (a .rest ∙ ap (drop i) (b .rest) ∙ drop-drop i j line)
+
+-- what follows the first space of a text ends it
+abbrev EndsWith : List ℕ → Parted → Type 0
+EndsWith text (parted word rest) = Ends rest text
+EndsWith text unparted = Unit {0}
+
+part-ends : (text : List ℕ) → EndsWith text (part text)
+unfolding part
+part-ends [] = tt
+part-ends (x ∷ text) = pick (part text) (part-ends text) (eqb x 32)
+  where
+    pick : (p : Parted) → EndsWith text p → (e : Bool) → EndsWith (x ∷ text) (cond e (parted [] text) (led x p))
+    pick p so true = ends-from 1 (omega arith) refl
+    pick (parted word rest) so false = ends-longer x so
+    pick unparted so false = tt
+
+-- and so does the text of a line's message
+abbrev pub EndsIn : List ℕ → Message → Type 0
+EndsIn line (message letter number text) = Ends text line
+EndsIn line notOfThisForm = Unit {0}
+
+numbered-ends : (letter : ℕ) (line rest : List ℕ) → Ends rest line → EndsIn line (numbered letter (part rest))
+numbered-ends letter line rest so = of (part rest) (part-ends rest)
+  where
+    of : (p : Parted) → EndsWith rest p → EndsIn line (numbered letter p)
+    of (parted word text) e = pick (isLong word)
+      where
+        pick : (b : Bool) → EndsIn line (cond b (message letter (value word) text) notOfThisForm)
+        pick true = ends-twice e so
+        pick false = tt
+    of unparted e = tt
+
+pub text-ends : (line : List ℕ) → EndsIn line (messageOf line)
+unfolding messageOf
+text-ends line = of (part line) (part-ends line)
+  where
+    of : (p : Parted) → EndsWith line p → EndsIn line (lettered p)
+    of (parted [] rest) so = tt
+    of (parted (b ∷ []) rest) so = pick (isLetter b)
+      where
+        pick : (e : Bool) → EndsIn line (cond e (numbered b (part rest)) notOfThisForm)
+        pick true = numbered-ends b line rest so
+        pick false = tt
+    of (parted (b ∷ x ∷ word) rest) so = tt
+    of unparted so = tt
 
 -- ---- examples
 

@@ -1,0 +1,36 @@
+-- The laws of what is said of a message line: one that is too long, one not of this form, and one that states a message.
+-- Assumes nothing.
+use Prim.Native.Nat.{ℕ, _≤_, _<_}
+use mathlib.Core.Path.{_≡_, ap, _∙_}
+use mathlib.Core.List.{List}
+use lib.ListN.{length, drop}
+use borrow.Author.Tests.{lt-ltb, le-ltb}
+use Rattle.entitlements.specs.declared.Account.{Account}
+use Rattle.entitlements.specs.declared.Kind.{Kind}
+use Rattle.lines.specs.Lines.{refused, longest}
+use Rattle.lines.specs.Messages.{messageOf}
+use Rattle.entry.specs.declared.Stated.the-variants.{Message, Bad}
+use Rattle.entry.specs.Stated.{statedOf}
+use Rattle.entry.specs.StatedLaws.{stated-bad, stated-message}
+use Rattle.book.specs.Said.{Doing, answered, posted, formPosted, posting}
+
+module _ (doing : Doing) (account : Account) (line : List ℕ) where
+  pub posting-long : longest < length line → posting doing account line ≡ answered (refused 10 0) account
+  unfolding posting
+  posting-long h = rw (lt-ltb longest (length line) h)
+
+  module _ (h : length line ≤ longest) where
+    pub posting-form : posting doing account line ≡ formPosted doing account (messageOf line)
+    unfolding posting
+    posting-form = rw (le-ltb longest (length line) h)
+
+    pub posting-bad : statedOf line ≡ Bad → posting doing account line ≡ answered (refused 9 0) account
+    posting-bad e = posting-form ∙ ap (formPosted doing account) (stated-bad line e)
+
+    pub posting-message : {kind : Kind} {number at : ℕ} → statedOf line ≡ Message kind number at
+        → posting doing account line ≡ posted (doing kind account (drop at line) number)
+    posting-message {number = number} {at = at} e =
+        let states = stated-message line e in
+        posting-form
+        ∙ ap (formPosted doing account) (states .says)
+        ∙ ap (λ (k : Kind). posted (doing k account (drop at line) number)) (states .its)

@@ -1,0 +1,42 @@
+// The message that a line states: document 02, request 3, "`A` or `C`, a space, the message number
+// (decimal, no leading zero, at most 18,446,744,073,709,551,615), a space, the code as the rest of the
+// line."
+ghost use mathlib.Core.Path.{_≡_};
+ghost use Rattle.entry.specs.Stated.{statedOf, statedAfter};
+use entitlements::Kind;
+use lines::starts;
+use numbers::Long;
+use numbers::long_at;
+
+// A message: its kind, its number, and where in the line its text starts; or a line not of this form.
+pub enum Stated {
+    Message(Kind, u64, usize),
+    Bad,
+}
+
+// The message that a line states.
+pub fn message_of(line: &[u8]) -> Stated
+    ensures { λ r. ⌜ r ≡ statedOf (now (line .entry)) ⌝ }
+{
+    if starts(line, b"A ") {
+        return message_after(line, Kind::Activate);
+    }
+    if starts(line, b"C ") {
+        return message_after(line, Kind::Cancel);
+    }
+    Stated::Bad
+}
+
+// The message of a line that starts with the letter of a kind and a space.
+fn message_after(line: &[u8], kind: Kind) -> Stated
+    ensures { λ r. ⌜ r ≡ statedAfter kind (now (line .entry)) ⌝ }
+{
+    let number = long_at(line, 2);
+    let Long::At(value, end) = number else {
+        return Stated::Bad;
+    };
+    if end < line.len() {
+        return Stated::Message(kind, value, end + 1);
+    }
+    Stated::Bad
+}
