@@ -1,6 +1,6 @@
 -- The laws of the location: pairs are taken apart and put together again, and so are angles and references. Assumes nothing.
 use Prim.Native.Nat.{ℕ, zero, suc, _+_, _-_, _*_, _/_, _%_, _^_, _≤_, _<_}
-use native.Mathlib.Nat.{pow-suc, pow-le-pow-right, div-add-mod', mod-lt}
+use native.Mathlib.Nat.{add-zero, add-suc, pow-suc, pow-succ', pow-le-pow-right, div-one, div-div-eq-div-mul, div-add-mod', mod-lt}
 use native.Mathlib.Numerals.{sub-one}
 use native.Mathlib.Omega.{arith}
 use mathlib.Core.Path.{_≡_, refl, ap, ap₂, _∙_, sym, subst}
@@ -38,31 +38,27 @@ unfolding paired latters
 paired-more zero a b h = absurd (h refl)
 paired-more (suc n) a b h = rw sub-one (omega arith)
 
-pub latters-none : (n x : ℕ) → n ≡ 0 → latters n x ≡ 0
-unfolding paired latters
-latters-none n x e = rw e
-
-pub latters-more : (n x : ℕ) → (n ≡ 0 → ⊥) → latters n x ≡ latters (n - 1) (x / 4) * 2 + x % 2
-unfolding paired latters
-latters-more zero x h = absurd (h refl)
-latters-more (suc n) x h = rw sub-one
-
 paired-most : (n a b : ℕ) → paired n a b < 4 ^ n
 unfolding paired latters
 paired-most zero a b = omega arith
 paired-most (suc n) a b = rw pow-suc (omega (arith, paired-most n (a / 2) (b / 2)))
 
-latters-most : (n x : ℕ) → latters n x < 2 ^ n
+pub latters-most : (n x : ℕ) {r : ℕ} → r ≡ latters n x → r < 2 ^ n
 unfolding paired latters
-latters-most zero x = omega arith
-latters-most (suc n) x = rw pow-suc (omega (arith, latters-most n (x / 4)))
+latters-most zero x e = omega arith
+latters-most (suc n) x e = rw pow-suc (omega (arith, latters-most n (x / 4) refl))
 
--- Of at most 27 bits each, what is paired has 54 bits and what is taken apart 27
+-- The latter bits of pairs, taken some at a time
+pub latters-split : (m n x : ℕ) → latters (m + n) x ≡ latters m (x / 4 ^ n) * 2 ^ n + latters n x
+unfolding paired latters
+latters-split m zero x = rw (add-zero m, div-one x) (omega arith)
+latters-split m (suc n) x =
+    let deep : x / 4 ^ suc n ≡ x / 4 / 4 ^ n = ap (λ (k : ℕ). x / k) (pow-succ' 4 n) ∙ sym (div-div-eq-div-mul x 4 (4 ^ n)) in
+    rw (add-suc m n, deep) (rw pow-suc (omega (arith, latters-split m n (x / 4))))
+
+-- Of at most 27 bits each, what is paired has 54 bits
 pub paired-below : (n a b : ℕ) {r : ℕ} → r ≡ paired n a b → n ≤ 27 → r < 2 ^ 54
 paired-below n a b e h = omega (arith, paired-most n a b, pow-le-pow-right {n = 4} (omega arith) h)
-
-pub latters-below : (n x : ℕ) {r : ℕ} → r ≡ latters n x → n ≤ 27 → r < 2 ^ 27
-latters-below n x e h = omega (arith, latters-most n x, pow-le-pow-right {n = 2} (omega arith) h)
 
 -- Paired bits are taken apart again
 pub latters-paired : (n a b : ℕ) → b < 2 ^ n → latters n (paired n a b) ≡ b
@@ -177,7 +173,7 @@ bits-below a h =
 -- The angle that 27 bits of a location tell, whichever they are, is below 2 to the 32
 pub angle-fits : (x : ℕ) {bits angle : ℕ} → bits ≡ latters 27 x → angle ≡ angleIn bits → angle < 2 ^ 32
 unfolding angleIn
-angle-fits x h e = omega (arith, latters-below 27 x h (omega arith))
+angle-fits x h e = omega (arith, latters-most 27 x h)
 
 -- An angle that a reference can have: a multiple of the smallest size, below its end
 pub record Angle (end a : ℕ) : Type 0 where

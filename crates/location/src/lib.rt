@@ -46,15 +46,25 @@ fn pair(n: u32, a: u32, b: u32) -> u64
     pair(n - 1, a / 2, b / 2) * 4 + (a % 2 * 2 + b % 2) as u64
 }
 
-// The latter bit of each of the last n pairs.
-fn unpair(n: u32, x: u64) -> u32
-    requires { ⌜ n ≤ 27 ⌝ }
-    ensures { λ r. ⌜ r ≡ latters n x ⌝ }
+// The latter bit of each of the last three pairs.
+fn latter_three(x: u64) -> u32
+    ensures { λ r. ⌜ r ≡ latters 3 x ⌝ }
 {
-    if n == 0 {
-        return 0;
-    }
-    unpair(n - 1, x / 4) * 2 + (x % 2) as u32
+    (x / 16 % 2 * 4 + x / 4 % 2 * 2 + x % 2) as u32
+}
+
+// The same of the last nine: three at a time, so that no call is made for each bit.
+fn latter_nine(x: u64) -> u32
+    ensures { λ r. ⌜ r ≡ latters 9 x ⌝ }
+{
+    latter_three(x / 4096) * 64 + latter_three(x / 64) * 8 + latter_three(x)
+}
+
+// The same of the last 27, nine at a time.
+fn unpair(x: u64) -> u32
+    ensures { λ r. ⌜ r ≡ latters 27 x ⌝ }
+{
+    latter_nine(x / 68719476736) * 262144 + latter_nine(x / 262144) * 512 + latter_nine(x)
 }
 
 // The 55 bits of a reference, the closing 1 among them.
@@ -68,14 +78,14 @@ pub fn location_of(p: Point) -> u64
 pub fn lat_in(location: u64) -> u32
     ensures { λ r. ⌜ r ≡ latIn location ⌝ }
 {
-    unpair(27, location / 2 / 2)
+    unpair(location / 2 / 2)
 }
 
 // The longitude's 27 bits of a location's 55.
 pub fn lon_in(location: u64) -> u32
     ensures { λ r. ⌜ r ≡ lonIn location ⌝ }
 {
-    unpair(27, location / 2)
+    unpair(location / 2)
 }
 
 // The reference that a location tells, of whatever bits.
