@@ -46,20 +46,21 @@ fn pair(n: u32, a: u32, b: u32) -> u64
     pair(n - 1, a / 2, b / 2) * 4 + (a % 2 * 2 + b % 2) as u64
 }
 
-// The latter bit of each of the last three pairs; of nine and of 27, three times over, so that no
-// bit costs a call.
+// The latter bit of each of the last three pairs.
 fn latter_three(x: u64) -> u32
     ensures { λ r. ⌜ r ≡ latters 3 x ⌝ }
 {
     (x / 16 % 2 * 4 + x / 4 % 2 * 2 + x % 2) as u32
 }
 
+// The same of the last nine: three at a time, so that no call is made for each bit.
 fn latter_nine(x: u64) -> u32
     ensures { λ r. ⌜ r ≡ latters 9 x ⌝ }
 {
     latter_three(x / 4096) * 64 + latter_three(x / 64) * 8 + latter_three(x)
 }
 
+// The same of the last 27, nine at a time.
 fn unpair(x: u64) -> u32
     ensures { λ r. ⌜ r ≡ latters 27 x ⌝ }
 {

@@ -24,7 +24,10 @@ latter-three-requires-3 : tie.Need-latter-three-requires-3
 latter-three-requires-3 c κs = search needs
 
 add-result-2 : tie.Need-add-result-2
-add-result-2 c = omega (arith, latters-most 3 _ (c .before .before .latter-three .ensures), latters-most 3 _ (c .before .latter-three2 .ensures), latters-most 3 _ (c .latter-three3 .ensures))
+add-result-2 c =
+    let second = c .before in
+    let first = second .before in
+    omega (arith, latters-most 3 _ (first .latter-three .ensures), latters-most 3 _ (second .latter-three2 .ensures), latters-most 3 _ (c .latter-three3 .ensures))
 
 returns : tie.Need-returns
 returns c =

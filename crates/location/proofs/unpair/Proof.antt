@@ -24,7 +24,10 @@ latter-nine-requires-3 : tie.Need-latter-nine-requires-3
 latter-nine-requires-3 c κs = search needs
 
 add-result-2 : tie.Need-add-result-2
-add-result-2 c = omega (arith, latters-most 9 _ (c .before .before .latter-nine .ensures), latters-most 9 _ (c .before .latter-nine2 .ensures), latters-most 9 _ (c .latter-nine3 .ensures))
+add-result-2 c =
+    let second = c .before in
+    let first = second .before in
+    omega (arith, latters-most 9 _ (first .latter-nine .ensures), latters-most 9 _ (second .latter-nine2 .ensures), latters-most 9 _ (c .latter-nine3 .ensures))
 
 returns : tie.Need-returns
 returns c =
