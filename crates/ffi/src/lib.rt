@@ -154,15 +154,8 @@ pub extern "C" fn linenspruce_activate(
 ) -> Lent
     ensures { λ r. ⌜ lends r (now (high .exit)) (now (low .exit)) (now (active .exit)) ≡ lending Activate (now (high .entry)) (now (low .entry)) (now (active .entry)) last (now (text .entry)) number ⌝ }
 {
-    lending::send_lent(
-        entitlements::Kind::Activate,
-        high,
-        low,
-        active,
-        last,
-        text,
-        number,
-    )
+    let activate = entitlements::Kind::Activate;
+    lending::send_lent(activate, high, low, active, last, text, number)
 }
 
 // Cancels a code, likewise.
@@ -177,13 +170,6 @@ pub extern "C" fn linenspruce_cancel(
 ) -> Lent
     ensures { λ r. ⌜ lends r (now (high .exit)) (now (low .exit)) (now (active .exit)) ≡ lending Cancel (now (high .entry)) (now (low .entry)) (now (active .entry)) last (now (text .entry)) number ⌝ }
 {
-    lending::send_lent(
-        entitlements::Kind::Cancel,
-        high,
-        low,
-        active,
-        last,
-        text,
-        number,
-    )
+    let cancel = entitlements::Kind::Cancel;
+    lending::send_lent(cancel, high, low, active, last, text, number)
 }

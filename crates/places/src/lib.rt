@@ -13,14 +13,14 @@ pub const PLACES: usize = 256;
 pub fn free_place(active: &[u64; PLACES]) -> usize
     ensures { λ r. ⌜ r ≡ lowestPlace (isFree (now (active .entry))) ⌝ }
 {
-    let mut i = 0;
-    while i < PLACES {
-        if active[i] == 0 {
-            return i;
+    let mut free = 0;
+    while free < PLACES {
+        if active[free] == 0 {
+            return free;
         }
-        i += 1;
+        free += 1;
     }
-    i
+    free
 }
 
 // The lowest place whose low half is this one, whatever else it holds.

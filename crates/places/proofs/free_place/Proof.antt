@@ -1,4 +1,4 @@
--- `places::free_place` meets its contract: no place below `i` is free. Assumes nothing.
+-- `places::free_place` meets its contract: no place below `free` is free. Assumes nothing.
 use Prim.Native.Nat.{_-_}
 use borrow.Author.Needs.{needs}
 use borrow.Author.Tests.{eq-eqb, ne-eqb}
@@ -9,10 +9,10 @@ use Rattle.places.proofs.free_place.Statement.{statement}
 use Rattle.places.proofs.free_place.Tie as tie
 
 abbrev Inv-loop : tie.InvT-loop
-Inv-loop active i₀ i = NoneBelow (isFree active) i
+Inv-loop active free₀ free = NoneBelow (isFree active) free
 
 abbrev μ-loop : tie.MeasureT-loop
-μ-loop active i₀ i = places - i
+μ-loop active free₀ free = places - free
 
 loop-holds : tie.Need-loop-holds Inv-loop μ-loop
 loop-holds c = none-begin
@@ -26,10 +26,10 @@ element-copy-out-if1 c = search needs
 returns : tie.Need-returns Inv-loop μ-loop
 returns c =
     let at = c .before .before .before in
-    none-found (at .loop .inv) (search needs) (eq-eqb (getD (at .before .args .active .now) (at .loop .i) 0) 0 (c .if1 .taken))
+    none-found (at .loop .inv) (search needs) (eq-eqb (getD (at .before .args .active .now) (at .loop .free) 0) 0 (c .if1 .taken))
 
-add-i : tie.Need-add-i Inv-loop μ-loop
-add-i c = search needs
+add-free : tie.Need-add-free Inv-loop μ-loop
+add-free c = search needs
 
 loop-less : tie.Need-loop-less Inv-loop μ-loop
 loop-less c = search needs
@@ -37,7 +37,7 @@ loop-less c = search needs
 loop-again : tie.Need-loop-again Inv-loop μ-loop
 loop-again c =
     let at = c .before .before .before in
-    none-again (at .loop .inv) (search needs) (ne-eqb (getD (at .before .args .active .now) (at .loop .i) 0) 0 (c .if1 .left))
+    none-again (at .loop .inv) (search needs) (ne-eqb (getD (at .before .args .active .now) (at .loop .free) 0) 0 (c .if1 .left))
 
 returns-2 : tie.Need-returns-2 Inv-loop μ-loop
 returns-2 c = none-finish (c .before .loop .inv) (search needs)
@@ -52,7 +52,7 @@ free-place-spec =
     mul-if1
     element-copy-out-if1
     returns
-    add-i
+    add-free
     loop-less
     loop-again
     returns-2)
