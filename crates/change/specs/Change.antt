@@ -14,28 +14,40 @@ use Rattle.entitlements.specs.declared.Answer.{Answer}
 use Rattle.entitlements.specs.declared.Answer.the-variants as answer
 use Rattle.entitlements.specs.Entitlements.{placeOf, used, putAt, largest, says, Done, done}
 use Rattle.change.specs.declared.Change.{Change}
+use Rattle.change.specs.declared.Step.{Step}
 
 -- an account by its arrays and its last number
 abbrev pub accountOf : List ℕ → List ℕ → List ℕ → ℕ → Account
 accountOf high low active last = record { high = high; low = low; active = active; last = last }
 
--- ---- a change
+-- ---- a step
 
 -- a code and an activity are put at a place
+abbrev pub stepTo : ℕ → ℕ → Halves → ℕ → Step
+stepTo last place code active = record { last = last; place = place; code = code; active = active }
+
+-- nothing is put: 256 is no place
+abbrev pub stays : ℕ → Step
+stays last = stepTo last places (record { high = 0; low = 0 }) 0
+
+-- the account after a step
+abbrev pub stepped : Step → Account → Account
+stepped s account = cond (ltb (s .place) places) (putAt account (s .place) (s .code) (s .active) (s .last)) (used (s .last) account)
+
+-- ---- a change: an answer and a step
+
+abbrev pub change : Answer → Step → Change
+change answer step = record { answer = answer; step = step }
+
 abbrev pub puts : Answer → ℕ → ℕ → Halves → ℕ → Change
-puts answer last place code active = record { answer = answer; last = last; place = place; code = code; active = active }
+puts answer last place code active = change answer (stepTo last place code active)
 
--- nothing is put
 abbrev pub keeps : Answer → ℕ → Change
-keeps answer last = puts answer last places (record { high = 0; low = 0 }) 0
-
--- the account after a change
-abbrev pub changed : Change → Account → Account
-changed c account = cond (ltb (c .place) places) (putAt account (c .place) (c .code) (c .active) (c .last)) (used (c .last) account)
+keeps answer last = change answer (stays last)
 
 -- what a change does
 abbrev pub makes : Change → Account → Done
-makes c account = done (says (c .answer)) (changed c account)
+makes c account = done (says (c .answer)) (stepped (c .step) account)
 
 -- ---- what a message changes
 

@@ -1,4 +1,5 @@
--- The laws of what a message changes: the change does what processing does; and each of its cases. Assumes nothing.
+-- The laws of what a message changes: an account after a step; the change does what processing does; and each of its cases.
+-- Assumes nothing.
 use Prim.Native.Nat.{ℕ, _≤_, _<_}
 use mathlib.Core.Path.{_≡_, refl, ap}
 use mathlib.Core.Bool.{Bool, true, false, cond, not, _||_, or-true}
@@ -14,8 +15,18 @@ use Rattle.entitlements.specs.declared.Account.{Account}
 use Rattle.entitlements.specs.declared.Kind.{Kind}
 use Rattle.entitlements.specs.declared.Kind.the-variants.{Activate, Cancel}
 use Rattle.entitlements.specs.declared.Answer.the-variants as answer
-use Rattle.entitlements.specs.Entitlements.{placeOf, freePlace, activation, cancellation, acting, largest, processing, done, refusal, old}
-use Rattle.change.specs.Change.{keeps, puts, makes, activating, cancelling, actingOn, changeOf}
+use Rattle.entitlements.specs.Entitlements.{placeOf, freePlace, used, putAt, activation, cancellation, acting, largest, processing, done, refusal, old}
+use Rattle.change.specs.declared.Step.{Step}
+use Rattle.change.specs.Change.{stepped, keeps, puts, makes, activating, cancelling, actingOn, changeOf}
+
+-- ---- a step that puts something at a place, and one that puts nothing
+
+module _ (step : Step) (account : Account) where
+  pub stepped-put : step .place < places → stepped step account ≡ putAt account (step .place) (step .code) (step .active) (step .last)
+  stepped-put h = rw (lt-ltb (step .place) places h)
+
+  pub stepped-none : places ≤ step .place → stepped step account ≡ used (step .last) account
+  stepped-none h = rw (le-ltb (step .place) places h)
 
 -- ---- a change does what processing does
 

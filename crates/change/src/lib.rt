@@ -2,33 +2,47 @@
 // runs through many messages keeps the account where it is and changes it there; no account is copied.
 // Like `processing`, from an account that was checked: 41, 42, "old" and 43.
 ghost use mathlib.Core.Path.{_≡_};
-ghost use Rattle.change.specs.Change.{keeps, activating, cancelling, accountOf, changeOf};
+ghost use Rattle.change.specs.Change.{stays, keeps, activating, cancelling, accountOf, changeOf};
 use entitlements::Answer;
 use entitlements::Kind;
 use halves::Code;
 use halves::Halves;
 use places::PLACES;
 
-// A change: the answer, the last number afterwards, and the place that is changed, with the code and
-// the activity that are put there. 256 is no place: nothing is put, and the code and the activity are 0.
-pub struct Change {
-    pub answer: Answer,
+// A step of an account: the last number afterwards, and the place that is changed, with the code and the
+// activity that are put there. 256 is no place: nothing is put, and the code and the activity are 0.
+pub struct Step {
     pub last: u64,
     pub place: usize,
     pub code: Halves,
     pub active: u64,
 }
 
-// What changes where nothing is put at a place.
+// A change: the answer to a message, and the account's step.
+pub struct Change {
+    pub answer: Answer,
+    pub step: Step,
+}
+
+// The step that puts nothing.
+pub fn stay(last: u64) -> Step
+    ensures { λ r. ⌜ r ≡ stays last ⌝ }
+{
+    Step {
+        last,
+        place: PLACES,
+        code: Halves { high: 0, low: 0 },
+        active: 0,
+    }
+}
+
+// What changes where nothing is put.
 fn keep(answer: Answer, last: u64) -> Change
     ensures { λ r. ⌜ r ≡ keeps answer last ⌝ }
 {
     Change {
         answer,
-        last,
-        place: PLACES,
-        code: Halves { high: 0, low: 0 },
-        active: 0,
+        step: stay(last),
     }
 }
 
@@ -43,10 +57,12 @@ fn activation(active: &[u64; PLACES], place: usize, code: Halves, number: u64) -
     if free < PLACES {
         return Change {
             answer: Answer::Activated,
-            last: number,
-            place: free,
-            code,
-            active: 1,
+            step: Step {
+                last: number,
+                place: free,
+                code,
+                active: 1,
+            },
         };
     }
     keep(Answer::Full, number)
@@ -59,10 +75,12 @@ fn cancellation(place: usize, number: u64) -> Change
     if place < PLACES {
         return Change {
             answer: Answer::Cancelled,
-            last: number,
-            place,
-            code: Halves { high: 0, low: 0 },
-            active: 0,
+            step: Step {
+                last: number,
+                place,
+                code: Halves { high: 0, low: 0 },
+                active: 0,
+            },
         };
     }
     keep(Answer::NotActive, number)
