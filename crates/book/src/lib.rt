@@ -1,17 +1,19 @@
 // The replies to message lines: from the bytes of each read to the bytes of the replies, with an
 // account that goes on from line to line.
 //
-// A line comes in byte by byte, into a room that goes from read to read. The account is not tested as a
-// whole, 40: from the empty one on, that is proved to be unnecessary, and the output of a whole run is
-// what messages say, however the reads cut the input: specs/Whole.antt.
+// A line comes in byte by byte, into a room that goes from read to read. The account stays where it is:
+// a message changes one place of it. It is not tested as a whole, 40: from the empty one on that is
+// proved to be unnecessary, and the output of a whole run is what messages are answered, however the
+// reads cut the input: specs/Whole.antt.
 mod post;
 
 ghost use mathlib.Core.Path.{_≡_};
 ghost use Rattle.room.specs.Room.{Put};
 ghost use Rattle.lines.specs.Automaton.{after, ended, last};
-ghost use Rattle.entitlements.specs.Entitlements.{processing as Entitlements·processing};
+ghost use Rattle.entitlements.specs.Entitlements.{processing};
 ghost use Rattle.book.specs.Said.{posting, coming};
 use entitlements::Account;
+use places::PLACES;
 
 // No reply has more bytes: the line's number, `refused`, number and place.
 pub const REPLY: usize = 71;
@@ -31,7 +33,7 @@ pub struct Listed {
 
 // Puts the replies to the lines that end in the bytes of a read into the output, as much as fits: a
 // line's number, and what its message is answered or its refusal. The rest of the bytes stays in the
-// room. Only a line feed hands the account on, since each time it is copied.
+// room.
 pub fn reply_all(
     line: Line,
     account: Account,
@@ -39,8 +41,8 @@ pub fn reply_all(
     room: &mut [u8],
     out: &mut [u8],
 ) -> Listed
-    ensures { λ r. ⌜ coming (r .line) (r .account) (now (room .exit)) ≡ after (posting Entitlements·processing) (coming line account (now (room .entry))) (now (bytes .entry)) ⌝ }
-    ensures { λ r. ⌜ Put (now (out .entry)) 0 (ended (posting Entitlements·processing) (coming line account (now (room .entry))) (now (bytes .entry))) (r .put) (now (out .exit)) ⌝ }
+    ensures { λ r. ⌜ coming (r .line) (r .account) (now (room .exit)) ≡ after (posting processing) (coming line account (now (room .entry))) (now (bytes .entry)) ⌝ }
+    ensures { λ r. ⌜ Put (now (out .entry)) 0 (ended (posting processing) (coming line account (now (room .entry))) (now (bytes .entry))) (r .put) (now (out .exit)) ⌝ }
 {
     let mut kept = account;
     let mut number = line.number;
@@ -51,11 +53,29 @@ pub fn reply_all(
         let byte = bytes[i];
         i += 1;
         if byte == b'\n' {
-            let posted = post::post_held(number, kept, room, len, out, put);
-            kept = posted.account;
+            let posted = post::post_held(
+                number,
+                &kept.high,
+                &kept.low,
+                &kept.active,
+                kept.last,
+                room,
+                len,
+                out,
+                put,
+            );
             put = posted.put;
             number = std::num::wrapping_add_u64(number, 1);
             len = 0;
+            let step = posted.step;
+            kept.last = step.last;
+            let place = step.place;
+            if place < PLACES {
+                let code = step.code;
+                kept.high[place] = code.high;
+                kept.low[place] = code.low;
+                kept.active[place] = step.active;
+            }
         } else {
             len = lines::add(room, len, byte);
         }
@@ -70,11 +90,21 @@ pub fn reply_all(
 // Puts the reply to a last line that has no line feed; there is none after a line feed that ends the
 // input.
 pub fn reply_last(line: Line, account: Account, room: &[u8], out: &mut [u8]) -> usize
-    ensures { λ r. ⌜ Put (now (out .entry)) 0 (last (posting Entitlements·processing) (coming line account (now (room .entry)))) r (now (out .exit)) ⌝ }
+    ensures { λ r. ⌜ Put (now (out .entry)) 0 (last (posting processing) (coming line account (now (room .entry)))) r (now (out .exit)) ⌝ }
 {
     if line.len == 0 {
         return 0;
     }
-    let posted = post::post_held(line.number, account, room, line.len, out, 0);
+    let posted = post::post_held(
+        line.number,
+        &account.high,
+        &account.low,
+        &account.active,
+        account.last,
+        room,
+        line.len,
+        out,
+        0,
+    );
     posted.put
 }

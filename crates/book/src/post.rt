@@ -1,57 +1,82 @@
-// The reply to one line, and the account after it.
+// The reply to one line, and the step of the account, which stays where it is.
 ghost use mathlib.Core.Path.{_≡_};
 ghost use lib.ListN.{take};
 ghost use Rattle.room.specs.Room.{Put};
-ghost use Rattle.lines.specs.Lines.{replyLine};
-ghost use Rattle.entitlements.specs.Entitlements.{says, processing as Entitlements·processing};
+ghost use Rattle.lines.specs.Lines.{refused, replyLine};
+ghost use Rattle.entitlements.specs.Entitlements.{says, processing};
+ghost use Rattle.change.specs.Change.{accountOf, stays, stepped};
 ghost use Rattle.book.specs.Said.{replyOf, posting};
-use entitlements::Account;
+use change::Step;
 use entitlements::Answer;
 use entry::Stated;
+use places::PLACES;
 
-// What a line leaves: the account, and the position after its reply.
+// What a line leaves: the step of the account, and the position after its reply.
 pub(crate) struct Posted {
-    pub account: Account,
+    pub step: Step,
     pub put: usize,
 }
 
-// The reply to a line whose first bytes stand in a room.
-pub(crate) fn post_held(
+// The reply to a line whose first bytes stand in a room, in an account by its arrays and its last
+// number.
+pub(crate) fn post_held<'a>(
     number: u64,
-    account: Account,
+    high: &'a [u64; PLACES],
+    low: &'a [u64; PLACES],
+    active: &'a [u64; PLACES],
+    last: u64,
     room: &[u8],
     len: usize,
     out: &mut [u8],
     at: usize,
 ) -> Posted
-    ensures { λ r. ⌜ r .account ≡ posting Entitlements·processing account (take len (now (room .entry))) .state ⌝ }
-    ensures { λ r. ⌜ Put (now (out .entry)) at (replyLine number (posting Entitlements·processing account (take len (now (room .entry))) .reply)) (r .put) (now (out .exit)) ⌝ }
+    ensures { λ r. ⌜ stepped (r .step) (accountOf (now (high .entry)) (now (low .entry)) (now (active .entry)) last) ≡ posting processing (accountOf (now (high .entry)) (now (low .entry)) (now (active .entry)) last) (take len (now (room .entry))) .state ⌝ }
+    ensures { λ r. ⌜ Put (now (out .entry)) at (replyLine number (posting processing (accountOf (now (high .entry)) (now (low .entry)) (now (active .entry)) last) (take len (now (room .entry))) .reply)) (r .put) (now (out .exit)) ⌝ }
 {
     if room.len() < len {
-        return post_line(number, account, room, out, at);
+        return post_line(number, high, low, active, last, room, out, at);
     }
-    post_line(number, account, &room[..len], out, at)
+    post_line(number, high, low, active, last, &room[..len], out, at)
 }
 
 // The reply to a line.
-fn post_line(number: u64, account: Account, line: &[u8], out: &mut [u8], at: usize) -> Posted
-    ensures { λ r. ⌜ r .account ≡ posting Entitlements·processing account (now (line .entry)) .state ⌝ }
-    ensures { λ r. ⌜ Put (now (out .entry)) at (replyLine number (posting Entitlements·processing account (now (line .entry)) .reply)) (r .put) (now (out .exit)) ⌝ }
+fn post_line<'a>(
+    number: u64,
+    high: &'a [u64; PLACES],
+    low: &'a [u64; PLACES],
+    active: &'a [u64; PLACES],
+    last: u64,
+    line: &[u8],
+    out: &mut [u8],
+    at: usize,
+) -> Posted
+    ensures { λ r. ⌜ stepped (r .step) (accountOf (now (high .entry)) (now (low .entry)) (now (active .entry)) last) ≡ posting processing (accountOf (now (high .entry)) (now (low .entry)) (now (active .entry)) last) (now (line .entry)) .state ⌝ }
+    ensures { λ r. ⌜ Put (now (out .entry)) at (replyLine number (posting processing (accountOf (now (high .entry)) (now (low .entry)) (now (active .entry)) last) (now (line .entry)) .reply)) (r .put) (now (out .exit)) ⌝ }
 {
     if line.len() > lines::LONGEST {
-        let put = output::put_refused(out, at, number, 10, 0);
-        return Posted { account, put };
+        return refuse(last, out, at, number, 10);
     }
     let stated = entry::message_of(line);
     let Stated::Message(kind, message, start) = stated else {
-        let put = output::put_refused(out, at, number, 9, 0);
-        return Posted { account, put };
+        return refuse(last, out, at, number, 9);
     };
-    let answered = processing::process(kind, account, &line[start..], message);
-    let answer = answered.answer;
+    let change = change::change_of(kind, high, low, active, last, &line[start..], message);
+    let answer = change.answer;
     let put = put_answer(out, at, number, answer);
-    let next = answered.account;
-    Posted { account: next, put }
+    let step = change.step;
+    Posted { step, put }
+}
+
+// The reply to a line that is refused, which leaves the account as it was.
+fn refuse(last: u64, out: &mut [u8], at: usize, number: u64, refusal: u32) -> Posted
+    ensures { λ r. ⌜ r .step ≡ stays last ⌝ }
+    ensures { λ r. ⌜ Put (now (out .entry)) at (replyLine number (refused refusal 0)) (r .put) (now (out .exit)) ⌝ }
+{
+    let put = output::put_refused(out, at, number, refusal, 0);
+    Posted {
+        step: change::stay(last),
+        put,
+    }
 }
 
 // The reply to a line whose message has an answer: its words, or the number of its refusal.

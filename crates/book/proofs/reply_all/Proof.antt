@@ -2,7 +2,7 @@
 -- is one of the two laws of one byte. Assumes nothing.
 use borrow.Author.Needs.{needs}
 use Prim.Native.Nat.{ℕ, _-_}
-use mathlib.Core.Path.{_≡_, refl}
+use mathlib.Core.Path.{_≡_, refl, sym, ap₂, _∙_}
 use mathlib.Core.List.{List}
 use lib.ListN.{length}
 use Rattle.room.specs.RoomLaws.{put-nothing}
@@ -11,6 +11,7 @@ use Rattle.lines.specs.AutomatonLaws.{byte-feed, byte-more}
 use Rattle.output.specs.Replying.{Replying, replying-begin, replying-step, replying-end}
 use Rattle.entitlements.specs.declared.Account.{Account}
 use Rattle.entitlements.specs.Entitlements.{processing}
+use Rattle.change.specs.ChangeLaws.{stepped-put, stepped-none}
 use Rattle.book.specs.Said.{posting, coming}
 use Rattle.book.proofs.reply_all.Statement.{statement}
 use Rattle.book.proofs.reply_all.Tie as tie
@@ -44,26 +45,60 @@ post-held-requires c κs = search needs
 wrapping-add-u64-requires : tie.Need-wrapping-add-u64-requires Inv-loop μ-loop
 wrapping-add-u64-requires c κs = search needs
 
+mul-kept : tie.Need-mul-kept Inv-loop μ-loop
+mul-kept c = search needs
+
+element-write-kept : tie.Need-element-write-kept Inv-loop μ-loop
+element-write-kept c = search needs
+
+mul-kept-2 : tie.Need-mul-kept-2 Inv-loop μ-loop
+mul-kept-2 c = search needs
+
+element-write-kept-2 : tie.Need-element-write-kept-2 Inv-loop μ-loop
+element-write-kept-2 c = search needs
+
+mul-kept-3 : tie.Need-mul-kept-3 Inv-loop μ-loop
+mul-kept-3 c = search needs
+
+element-write-kept-3 : tie.Need-element-write-kept-3 Inv-loop μ-loop
+element-write-kept-3 c = search needs
+
 loop-less : tie.Need-loop-less Inv-loop μ-loop
 loop-less c = search needs
 
 loop-again : tie.Need-loop-again Inv-loop μ-loop
 loop-again c =
-    let here = c .before .before .before .before .before .before .before .before .before .before .loop in
-    let feed = c .before .before .before .before .before .before .before .if1 .taken in
+    let here = c .before .before .before .before .before .before .before .before .before .before .before .before .before .before .before .before .loop in
+    let feed = c .before .before .before .before .before .before .before .before .before .before .before .before .before .if1 .taken in
+    let less = c .before .before .before .before .before .before .before .before .before .before .before .before .before .before .before .loop-test .taken in
     let fed = byte-feed (posting processing) (comes (here .number) (here .len) (here .kept) (here .room)) _ feed in
-    let posted = c .before .before .before .before .post-held .ensures in
-    let counted = c .wrapping-add-u64 .ensures in
-    (search needs, search needs, replying-step (here .inv .2) (search needs) (rw (fed .0, counted, posted .0)) (rw (fed .1) (posted .1)))
-
-add-requires : tie.Need-add-requires Inv-loop μ-loop
-add-requires c κs = search needs
+    let posted = c .before .before .before .before .before .before .post-held in
+    let left = sym (stepped-put (posted .result .step) (here .kept) (c .before .if2 .taken)) ∙ posted .ensures .0 in
+    let on = ap₂ (λ (n : ℕ) (a : Account). comes n 0 a (here .room)) (c .before .before .before .wrapping-add-u64 .ensures) left ∙ sym (fed .0) in
+    (search needs, search needs, replying-step (here .inv .2) less on (rw (fed .1) (posted .ensures .1)))
 
 loop-less-2 : tie.Need-loop-less-2 Inv-loop μ-loop
 loop-less-2 c = search needs
 
 loop-again-2 : tie.Need-loop-again-2 Inv-loop μ-loop
 loop-again-2 c =
+    let here = c .before .before .before .before .before .before .before .before .before .before .before .before .before .before .before .loop in
+    let feed = c .before .before .before .before .before .before .before .before .before .before .before .before .if1 .taken in
+    let less = c .before .before .before .before .before .before .before .before .before .before .before .before .before .before .loop-test .taken in
+    let fed = byte-feed (posting processing) (comes (here .number) (here .len) (here .kept) (here .room)) _ feed in
+    let posted = c .before .before .before .before .before .post-held in
+    let left = sym (stepped-none (posted .result .step) (here .kept) (c .if2 .left)) ∙ posted .ensures .0 in
+    let on = ap₂ (λ (n : ℕ) (a : Account). comes n 0 a (here .room)) (c .before .before .wrapping-add-u64 .ensures) left ∙ sym (fed .0) in
+    (search needs, search needs, replying-step (here .inv .2) less on (rw (fed .1) (posted .ensures .1)))
+
+add-requires : tie.Need-add-requires Inv-loop μ-loop
+add-requires c κs = search needs
+
+loop-less-3 : tie.Need-loop-less-3 Inv-loop μ-loop
+loop-less-3 c = search needs
+
+loop-again-3 : tie.Need-loop-again-3 Inv-loop μ-loop
+loop-again-3 c =
     let here = c .before .before .before .before .before .before .before .loop in
     let other = c .before .before .before .before .if1 .left in
     let grew = byte-more (posting processing) (comes (here .number) (here .len) (here .kept) (here .room)) _ other in
@@ -91,11 +126,19 @@ reply-all-spec =
     add-i
     post-held-requires
     wrapping-add-u64-requires
+    mul-kept
+    element-write-kept
+    mul-kept-2
+    element-write-kept-2
+    mul-kept-3
+    element-write-kept-3
     loop-less
     loop-again
-    add-requires
     loop-less-2
     loop-again-2
+    add-requires
+    loop-less-3
+    loop-again-3
     same-length
     same-length-2
     returns)

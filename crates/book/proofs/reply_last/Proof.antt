@@ -10,7 +10,7 @@ use Rattle.book.proofs.reply_last.Tie as tie
 returns : tie.Need-returns
 returns c =
     let asked = c .before .before .before .before .args in
-    let comes = coming (asked .line) (asked .account) (asked .room .now) in
+    let comes = coming (asked .line) (asked .t2) (asked .room .now) in
     rw (last-none (posting processing) comes (c .if1 .taken)) (put-nothing (asked .out .now) 0)
 
 post-held-requires : tie.Need-post-held-requires
@@ -21,9 +21,9 @@ same-length c = search needs
 
 returns-2 : tie.Need-returns-2
 returns-2 c =
-    let asked = c .before .before .before .before .before .before .before .before .args in
-    let comes = coming (asked .line) (asked .account) (asked .room .now) in
-    let some = last-some (posting processing) comes (c .before .before .before .before .if1 .left) in
+    let asked = c .before .before .before .before .before .before .before .before .before .before .before .before .args in
+    let comes = coming (asked .line) (asked .t2) (asked .room .now) in
+    let some = last-some (posting processing) comes (c .before .before .before .before .before .before .before .before .if1 .left) in
     rw some (c .before .before .post-held .ensures .1)
 
 pub reply-last-spec : {M : Type 1} → statement M

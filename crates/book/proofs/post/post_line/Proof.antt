@@ -1,18 +1,22 @@
 -- `book::post::post_line` meets its contract: a line that is too long, one not of this form, and one that states a message, whose text
--- stands in the line. Assumes nothing.
+-- stands in the line and whose change does what processing does. Assumes nothing.
 use Prim.Native.Nat.{ℕ}
-use mathlib.Core.Path.{refl, sym, ap, _∙_}
+use mathlib.Core.Path.{sym, ap, _∙_}
 use mathlib.Core.List.{List}
 use borrow.Rule.Slice.PartAt.{part-to-end}
 use Rattle.entitlements.specs.Entitlements.{Done, processing}
 use Rattle.entry.specs.StatedLaws.{stated-message}
+use Rattle.change.specs.declared.Change.{Change}
+use Rattle.change.specs.declared.Step.{Step}
+use Rattle.change.specs.Change.{accountOf, stepped, makes}
+use Rattle.change.specs.ChangeLaws.{change-processing}
 use Rattle.book.specs.SaidLaws.{posting-long, posting-bad, posting-message}
 use borrow.Author.Needs.{needs}
 use Rattle.book.proofs.post.post_line.Statement.{statement}
 use Rattle.book.proofs.post.post_line.Tie as tie
 
-put-refused-requires : tie.Need-put-refused-requires
-put-refused-requires c κs = search needs
+refuse-requires : tie.Need-refuse-requires
+refuse-requires c κs = search needs
 
 same-length : tie.Need-same-length
 same-length c = search needs
@@ -20,8 +24,10 @@ same-length c = search needs
 returns : tie.Need-returns
 returns c =
     let asked = c .before .before .before .before .before .before .before .args in
+    let account = accountOf (asked .high .now) (asked .low .now) (asked .active .now) (asked .last) in
     let long = c .before .before .before .before .if1 .taken in
-    rw (posting-long processing (asked .account) (asked .line .now) long) (refl, c .before .before .put-refused .ensures)
+    let refused = c .before .before .refuse .ensures in
+    rw (posting-long processing account (asked .line .now) long) (ap (λ (s : Step). stepped s account) (refused .0), refused .1)
 
 message-of-requires : tie.Need-message-of-requires
 message-of-requires c κs = search needs
@@ -32,8 +38,8 @@ enum-known-stated c = search needs
 enum-told : tie.Need-enum-told
 enum-told c = search needs
 
-put-refused-requires-2 : tie.Need-put-refused-requires-2
-put-refused-requires-2 c κs = search needs
+refuse-requires-2 : tie.Need-refuse-requires-2
+refuse-requires-2 c κs = search needs
 
 same-length-2 : tie.Need-same-length-2
 same-length-2 c = search needs
@@ -41,27 +47,29 @@ same-length-2 c = search needs
 returns-2 : tie.Need-returns-2
 returns-2 c =
     let asked = c .before .before .before .before .before .before .before .before .before .before .args in
+    let account = accountOf (asked .high .now) (asked .low .now) (asked .active .now) (asked .last) in
     let short = c .before .before .before .before .before .before .before .if1 .left in
     let bad = sym (c .before .before .before .before .before .before .message-of .ensures) ∙ c .before .before .before .before .enum-told .given .1 in
-    rw (posting-bad processing (asked .account) (asked .line .now) short bad) (refl, c .before .before .put-refused2 .ensures)
+    let refused = c .before .before .refuse2 .ensures in
+    rw (posting-bad processing account (asked .line .now) short bad) (ap (λ (s : Step). stepped s account) (refused .0), refused .1)
 
 -- the text starts within the line
-within : tie.Need-sub-process
+within : tie.Need-sub-change-of
 within c =
     let line = c .before .before .before .before .before .before .before .args .line .now in
     stated-message line (sym (c .before .before .before .message-of .ensures) ∙ c .before .stated .given .1) .within
 
-sub-process : tie.Need-sub-process
-sub-process = within
+sub-change-of : tie.Need-sub-change-of
+sub-change-of = within
 
-part-process-start : tie.Need-part-process-start
-part-process-start = within
+part-change-of-start : tie.Need-part-change-of-start
+part-change-of-start = within
 
-part-process-end : tie.Need-part-process-end
-part-process-end c = search needs
+part-change-of-end : tie.Need-part-change-of-end
+part-change-of-end c = search needs
 
-process-requires : tie.Need-process-requires
-process-requires c κs = search needs
+change-of-requires : tie.Need-change-of-requires
+change-of-requires c κs = search needs
 
 put-answer-requires : tie.Need-put-answer-requires
 put-answer-requires c κs = search needs
@@ -72,34 +80,35 @@ same-length-3 c = search needs
 returns-3 : tie.Need-returns-3
 returns-3 c =
     let asked = c .before .before .before .before .before .before .before .before .before .before .before .before .before .before .args in
+    let account = accountOf (asked .high .now) (asked .low .now) (asked .active .now) (asked .last) in
+    let line = asked .line .now in
     let short = c .before .before .before .before .before .before .before .before .before .before .before .if1 .left in
-    let told = c .before .before .before .before .before .before .before .before .stated .given .1 in
-    let states = sym (c .before .before .before .before .before .before .before .before .before .before .message-of .ensures) ∙ told in
-    let seen = c .before .before .before .before .before .before .before .before .stated .given .0 in
-    let rest = part-to-end (asked .line .now) (seen .1 .1 .0) in
+    let seen = c .before .before .before .before .before .before .before .before .stated .given in
+    let states = sym (c .before .before .before .before .before .before .before .before .before .before .message-of .ensures) ∙ seen .1 in
     let did =
-    c .before .before .before .before .before .process .ensures
-    ∙ ap (λ (text : List ℕ). processing (seen .0) (asked .account) text (seen .1 .0)) rest in
-    rw (posting-message processing (asked .account) (asked .line .now) short states)
+    ap (λ (d : Change). makes d account) (c .before .before .before .before .before .change-of .ensures)
+    ∙ change-processing (seen .0 .0) account _ (seen .0 .1 .0)
+    ∙ ap (λ (text : List ℕ). processing (seen .0 .0) account text (seen .0 .1 .0)) (part-to-end line (seen .0 .1 .1 .0)) in
+    rw (posting-message processing account line short states)
     (ap (λ (d : Done). d .account) did, rw (← did) (c .before .before .before .put-answer .ensures))
 
 pub post-line-spec : {M : Type 1} → statement M
 post-line-spec =
     tie.close
     (tie.spec
-    put-refused-requires
+    refuse-requires
     same-length
     returns
     message-of-requires
     enum-known-stated
     enum-told
-    put-refused-requires-2
+    refuse-requires-2
     same-length-2
     returns-2
-    sub-process
-    part-process-start
-    part-process-end
-    process-requires
+    sub-change-of
+    part-change-of-start
+    part-change-of-end
+    change-of-requires
     put-answer-requires
     same-length-3
     returns-3)

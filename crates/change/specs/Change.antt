@@ -1,0 +1,75 @@
+-- What a message changes in an account (document 02, request 3), case by case as in entitlements/specs/Entitlements.antt, and what an
+-- account is after a change. Assumes nothing.
+use Prim.Native.Nat.{ℕ}
+use mathlib.Core.Bool.{cond, not, _||_}
+use mathlib.Core.List.{List}
+use lib.Dec.{eqb, leb, ltb}
+use Rattle.halves.specs.declared.Halves.{Halves}
+use Rattle.halves.specs.Halves.{halvesIn, readable}
+use Rattle.places.specs.Places.{places, isFree, lowestPlace}
+use Rattle.entitlements.specs.declared.Account.{Account}
+use Rattle.entitlements.specs.declared.Kind.{Kind}
+use Rattle.entitlements.specs.declared.Kind.the-variants.{Activate, Cancel}
+use Rattle.entitlements.specs.declared.Answer.{Answer}
+use Rattle.entitlements.specs.declared.Answer.the-variants as answer
+use Rattle.entitlements.specs.Entitlements.{placeOf, used, putAt, largest, says, Done, done}
+use Rattle.change.specs.declared.Change.{Change}
+use Rattle.change.specs.declared.Step.{Step}
+
+-- an account by its arrays and its last number
+abbrev pub accountOf : List ℕ → List ℕ → List ℕ → ℕ → Account
+accountOf high low active last = record { high = high; low = low; active = active; last = last }
+
+-- ---- a step
+
+-- a code and an activity are put at a place
+abbrev pub stepTo : ℕ → ℕ → Halves → ℕ → Step
+stepTo last place code active = record { last = last; place = place; code = code; active = active }
+
+-- nothing is put: 256 is no place
+abbrev pub stays : ℕ → Step
+stays last = stepTo last places (record { high = 0; low = 0 }) 0
+
+-- the account after a step
+abbrev pub stepped : Step → Account → Account
+stepped s account = cond (ltb (s .place) places) (putAt account (s .place) (s .code) (s .active) (s .last)) (used (s .last) account)
+
+-- ---- a change: an answer and a step
+
+abbrev pub change : Answer → Step → Change
+change answer step = record { answer = answer; step = step }
+
+abbrev pub puts : Answer → ℕ → ℕ → Halves → ℕ → Change
+puts answer last place code active = change answer (stepTo last place code active)
+
+abbrev pub keeps : Answer → ℕ → Change
+keeps answer last = change answer (stays last)
+
+-- what a change does
+abbrev pub makes : Change → Account → Done
+makes c account = done (says (c .answer)) (stepped (c .step) account)
+
+-- ---- what a message changes
+
+-- an activation of a code that has a place, 256 where it is not active
+unfoldable pub activating : List ℕ → ℕ → Halves → ℕ → Change
+activating active place code number =
+    cond (ltb place places) (keeps answer.Already number)
+    (cond (ltb (lowestPlace (isFree active)) places) (puts answer.Activated number (lowestPlace (isFree active)) code 1) (keeps answer.Full number))
+
+-- a cancellation of one
+unfoldable pub cancelling : ℕ → ℕ → Change
+cancelling place number =
+    cond (ltb place places) (puts answer.Cancelled number place (record { high = 0; low = 0 }) 0) (keeps answer.NotActive number)
+
+-- either message, of a code
+abbrev pub actingOn : Kind → Account → Halves → ℕ → Change
+actingOn Activate account code number = activating (account .active) (placeOf account code) code number
+actingOn Cancel account code number = cancelling (placeOf account code) number
+
+-- 41, 42 and "old" change nothing
+unfoldable pub changeOf : Kind → Account → List ℕ → ℕ → Change
+changeOf kind account text number =
+    cond (eqb number 0 || ltb largest number) (keeps answer.Number (account .last))
+    (cond (not (readable text)) (keeps answer.Code (account .last))
+    (cond (leb number (account .last)) (keeps answer.Old (account .last)) (actingOn kind account (halvesIn text) number)))
