@@ -5,7 +5,9 @@ ghost use mathlib.Core.Path.{_≡_};
 ghost use Rattle.places.specs.Places.{places};
 ghost use Rattle.entitlements.specs.declared.Kind.the-variants.{Activate, Cancel};
 ghost use Rattle.entitlements.specs.Entitlements.{twiceAt, noCodeAt, noAccount, does, message};
+ghost use Rattle.change.specs.Change.{stepped as Change·stepped};
 ghost use Rattle.message.specs.Lent.{lent, badPlace};
+use change::Step;
 use entitlements::Account;
 use entitlements::Answer;
 use entitlements::Answered;
@@ -80,6 +82,22 @@ fn no_account(account: Account) -> bool
     bad_place(&account.high, &account.low, &account.active)
 }
 
+// The account after a step. It is copied here, and changed where it stands then.
+fn stepped(account: Account, step: Step) -> Account
+    ensures { λ r. ⌜ r ≡ Change·stepped step account ⌝ }
+{
+    let mut next = account;
+    next.last = step.last;
+    let place = step.place;
+    if place < PLACES {
+        let code = step.code;
+        next.high[place] = code.high;
+        next.low[place] = code.low;
+        next.active[place] = step.active;
+    }
+    next
+}
+
 // Answers a message of either kind.
 fn answer(kind: Kind, account: Account, text: &[u8], number: u64) -> Answered
     ensures { λ r. ⌜ does r ≡ message kind account (now (text .entry)) number ⌝ }
@@ -90,7 +108,21 @@ fn answer(kind: Kind, account: Account, text: &[u8], number: u64) -> Answered
             account,
         };
     }
-    processing::process(kind, account, text, number)
+    let change = change::change_of(
+        kind,
+        &account.high,
+        &account.low,
+        &account.active,
+        account.last,
+        text,
+        number,
+    );
+    let answer = change.answer;
+    let step = change.step;
+    Answered {
+        answer,
+        account: stepped(account, step),
+    }
 }
 
 // Activates a code, of any text, by a message of any number, in any account.
