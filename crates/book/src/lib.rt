@@ -13,7 +13,6 @@ ghost use Rattle.lines.specs.Automaton.{after, ended, last};
 ghost use Rattle.entitlements.specs.Entitlements.{processing};
 ghost use Rattle.book.specs.Said.{posting, coming};
 use entitlements::Account;
-use places::PLACES;
 
 // No reply has more bytes: the line's number, `refused`, number and place.
 pub const REPLY: usize = 71;
@@ -44,7 +43,10 @@ pub fn reply_all(
     ensures { λ r. ⌜ coming (r .line) (r .account) (now (room .exit)) ≡ after (posting processing) (coming line account (now (room .entry))) (now (bytes .entry)) ⌝ }
     ensures { λ r. ⌜ Put (now (out .entry)) 0 (ended (posting processing) (coming line account (now (room .entry))) (now (bytes .entry))) (r .put) (now (out .exit)) ⌝ }
 {
-    let mut kept = account;
+    let mut high = account.high;
+    let mut low = account.low;
+    let mut active = account.active;
+    let mut last = account.last;
     let mut number = line.number;
     let mut len = line.len;
     let mut put = 0;
@@ -53,36 +55,25 @@ pub fn reply_all(
         let byte = bytes[i];
         i += 1;
         if byte == b'\n' {
-            let posted = post::post_held(
-                number,
-                &kept.high,
-                &kept.low,
-                &kept.active,
-                kept.last,
-                room,
-                len,
-                out,
-                put,
-            );
+            let posted = post::post_held(number, &high, &low, &active, last, room, len, out, put);
+            let step = posted.step;
+            change::put_step(&mut high, &mut low, &mut active, step);
+            last = step.last;
             put = posted.put;
             number = std::num::wrapping_add_u64(number, 1);
             len = 0;
-            let step = posted.step;
-            kept.last = step.last;
-            let place = step.place;
-            if place < PLACES {
-                let code = step.code;
-                kept.high[place] = code.high;
-                kept.low[place] = code.low;
-                kept.active[place] = step.active;
-            }
         } else {
             len = lines::add(room, len, byte);
         }
     }
     Listed {
         line: Line { number, len },
-        account: kept,
+        account: Account {
+            high,
+            low,
+            active,
+            last,
+        },
         put,
     }
 }

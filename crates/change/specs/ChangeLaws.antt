@@ -17,7 +17,7 @@ use Rattle.entitlements.specs.declared.Kind.the-variants.{Activate, Cancel}
 use Rattle.entitlements.specs.declared.Answer.the-variants as answer
 use Rattle.entitlements.specs.Entitlements.{placeOf, freePlace, used, putAt, activation, cancellation, acting, largest, processing, done, refusal, old}
 use Rattle.change.specs.declared.Step.{Step}
-use Rattle.change.specs.Change.{stepped, keeps, puts, makes, activating, cancelling, actingOn, changeOf}
+use Rattle.change.specs.Change.{accountOf, stepped, keeps, puts, makes, activating, cancelling, actingOn, changeOf}
 
 -- ---- a step that puts something at a place, and one that puts nothing
 
@@ -27,6 +27,16 @@ module _ (step : Step) (account : Account) where
 
   pub stepped-none : places ≤ step .place → stepped step account ≡ used (step .last) account
   stepped-none h = rw (le-ltb (step .place) places h)
+
+-- the last number before a step does not count
+pub stepped-last : (step : Step) (high low active : List ℕ) (one other : ℕ)
+    → stepped step (accountOf high low active one) ≡ stepped step (accountOf high low active other)
+stepped-last step high low active one other = at (ltb (step .place) places) refl
+  where
+    at : (b : Bool) → ltb (step .place) places ≡ b
+        → stepped step (accountOf high low active one) ≡ stepped step (accountOf high low active other)
+    at true e = rw e
+    at false e = rw e
 
 -- ---- a change does what processing does
 

@@ -2,7 +2,7 @@
 // runs through many messages keeps the account where it is and changes it there; no account is copied.
 // Like `processing`, from an account that was checked: 41, 42, "old" and 43.
 ghost use mathlib.Core.Path.{_≡_};
-ghost use Rattle.change.specs.Change.{stays, keeps, activating, cancelling, accountOf, changeOf};
+ghost use Rattle.change.specs.Change.{stays, stepped, keeps, activating, cancelling, accountOf, changeOf};
 use entitlements::Answer;
 use entitlements::Kind;
 use halves::Code;
@@ -33,6 +33,24 @@ pub fn stay(last: u64) -> Step
         place: PLACES,
         code: Halves { high: 0, low: 0 },
         active: 0,
+    }
+}
+
+// Puts a step into an account by its arrays; the last number is the step's.
+pub fn put_step(
+    high: &mut [u64; PLACES],
+    low: &mut [u64; PLACES],
+    active: &mut [u64; PLACES],
+    step: Step,
+)
+    ensures { λ _. ⌜ accountOf (now (high .exit)) (now (low .exit)) (now (active .exit)) (step .last) ≡ stepped step (accountOf (now (high .entry)) (now (low .entry)) (now (active .entry)) (step .last)) ⌝ }
+{
+    let place = step.place;
+    if place < PLACES {
+        let code = step.code;
+        high[place] = code.high;
+        low[place] = code.low;
+        active[place] = step.active;
     }
 }
 

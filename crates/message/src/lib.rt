@@ -82,20 +82,20 @@ fn no_account(account: Account) -> bool
     bad_place(&account.high, &account.low, &account.active)
 }
 
-// The account after a step. It is copied here, and changed where it stands then.
+// The account after a step.
 fn stepped(account: Account, step: Step) -> Account
     ensures { λ r. ⌜ r ≡ Change·stepped step account ⌝ }
 {
-    let mut next = account;
-    next.last = step.last;
-    let place = step.place;
-    if place < PLACES {
-        let code = step.code;
-        next.high[place] = code.high;
-        next.low[place] = code.low;
-        next.active[place] = step.active;
+    let mut high = account.high;
+    let mut low = account.low;
+    let mut active = account.active;
+    change::put_step(&mut high, &mut low, &mut active, step);
+    Account {
+        high,
+        low,
+        active,
+        last: step.last,
     }
-    next
 }
 
 // Answers a message of either kind.

@@ -1,5 +1,6 @@
 -- `change::change_of` meets its contract, case by case. Assumes nothing.
 use Prim.Native.Nat.{ℕ}
+use native.Mathlib.Omega.{arith}
 use mathlib.Core.Path.{ap, sym, _∙_}
 use Rattle.entitlements.specs.declared.Kind.{Kind}
 use Rattle.change.specs.Change.{accountOf, activating, cancelling, actingOn}
@@ -57,7 +58,7 @@ returns-4 c =
     let some = c .before .before .before .before .before .before .before .if1 .left in
     let most = c .before .before .before .before .before .before .if2 .left in
     let read = sym (c .before .before .before .before .before .code-in .ensures) ∙ c .before .before .before .read .given .1 in
-    c .keep4 .ensures ∙ sym (change-old (asked .kind) account (asked .text .now) (asked .number) some most read (c .before .if3 .taken))
+    c .keep4 .ensures ∙ sym (change-old (asked .kind) account (asked .text .now) (asked .number) some most read (omega (arith, c .before .if3 .taken)))
 
 code-place-requires : tie.Need-code-place-requires
 code-place-requires c κs = search needs
@@ -82,7 +83,7 @@ returns-5 c =
     let most = c .before .before .before .before .before .before .before .before .before .if2 .left in
     let seen = c .before .before .before .before .before .before .read .given in
     let read = sym (c .before .before .before .before .before .before .before .before .code-in .ensures) ∙ seen .1 in
-    let acts = change-acts (asked .kind) account (asked .text .now) (asked .number) some most read (c .before .before .before .before .if3 .left) in
+    let acts = change-acts (asked .kind) account (asked .text .now) (asked .number) some most read (omega (arith, c .before .before .before .before .if3 .left)) in
     c .activation .ensures
     ∙ ap (λ (place : ℕ). activating (asked .active .now) place (seen .0 .0) (asked .number)) (c .before .before .before .code-place .ensures)
     ∙ ap (λ (kind : Kind). actingOn kind account (seen .0 .0) (asked .number)) (sym (c .before .enum-told2 .given .1))
@@ -96,7 +97,7 @@ returns-6 c =
     let most = c .before .before .before .before .before .before .before .before .before .if2 .left in
     let seen = c .before .before .before .before .before .before .read .given in
     let read = sym (c .before .before .before .before .before .before .before .before .code-in .ensures) ∙ seen .1 in
-    let acts = change-acts (asked .kind) account (asked .text .now) (asked .number) some most read (c .before .before .before .before .if3 .left) in
+    let acts = change-acts (asked .kind) account (asked .text .now) (asked .number) some most read (omega (arith, c .before .before .before .before .if3 .left)) in
     c .cancellation .ensures
     ∙ ap (λ (place : ℕ). cancelling place (asked .number)) (c .before .before .before .code-place .ensures)
     ∙ ap (λ (kind : Kind). actingOn kind account (seen .0 .0) (asked .number)) (sym (c .before .enum-told3 .given .1))
