@@ -20,7 +20,7 @@ module _ (doing : Doing) (account : Account) (line : List ℕ) where
   posting-long h = rw (lt-ltb longest (length line) h)
 
   module _ (h : length line ≤ longest) where
-    pub posting-form : posting doing account line ≡ formPosted doing account (messageOf line)
+    posting-form : posting doing account line ≡ formPosted doing account (messageOf line)
     unfolding posting
     posting-form = rw (le-ltb longest (length line) h)
 

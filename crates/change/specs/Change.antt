@@ -34,14 +34,17 @@ stays last = stepTo last places (record { high = 0; low = 0 }) 0
 abbrev pub stepped : Step → Account → Account
 stepped s account = cond (ltb (s .place) places) (putAt account (s .place) (s .code) (s .active) (s .last)) (used (s .last) account)
 
--- ---- a change: an answer and a step
+-- ---- a change
 
+-- an answer and a step
 abbrev pub change : Answer → Step → Change
 change answer step = record { answer = answer; step = step }
 
+-- an answer, and what is put at a place
 abbrev pub puts : Answer → ℕ → ℕ → Halves → ℕ → Change
 puts answer last place code active = change answer (stepTo last place code active)
 
+-- an answer, and nothing is put
 abbrev pub keeps : Answer → ℕ → Change
 keeps answer last = change answer (stays last)
 

@@ -1,3 +1,4 @@
--- What the contract of `entry` cites, and its laws.
+-- What the contract of `entry` cites, its laws, and that no second answer meets it.
 pub mod Stated
 pub mod StatedLaws
+pub mod Once
