@@ -16,10 +16,6 @@ use Rattle.entitlements.specs.Entitlements.{placeOf, used, putAt, largest, says
 use Rattle.change.specs.declared.Change.{Change}
 use Rattle.change.specs.declared.Step.{Step}
 
--- an account by its arrays and its last number
-abbrev pub accountOf : List ℕ → List ℕ → List ℕ → ℕ → Account
-accountOf high low active last = record { high = high; low = low; active = active; last = last }
-
 -- ---- a step
 
 -- a code and an activity are put at a place

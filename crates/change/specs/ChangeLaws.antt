@@ -15,9 +15,9 @@ use Rattle.entitlements.specs.declared.Account.{Account}
 use Rattle.entitlements.specs.declared.Kind.{Kind}
 use Rattle.entitlements.specs.declared.Kind.the-variants.{Activate, Cancel}
 use Rattle.entitlements.specs.declared.Answer.the-variants as answer
-use Rattle.entitlements.specs.Entitlements.{placeOf, freePlace, used, putAt, activation, cancellation, acting, largest, processing, done, refusal, old}
+use Rattle.entitlements.specs.Entitlements.{accountOf, placeOf, freePlace, used, putAt, activation, cancellation, acting, largest, processing, done, refusal, old}
 use Rattle.change.specs.declared.Step.{Step}
-use Rattle.change.specs.Change.{accountOf, stepped, keeps, puts, makes, activating, cancelling, actingOn, changeOf}
+use Rattle.change.specs.Change.{stepped, keeps, puts, makes, activating, cancelling, actingOn, changeOf}
 
 -- ---- a step that puts something at a place, and one that puts nothing
 

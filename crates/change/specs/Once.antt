@@ -1,5 +1,6 @@
 -- No second answer meets the contracts of `change`: that of `put_step` leaves no choice for the arrays; the others are equations of the
 -- answer itself. Assumes nothing.
+use Rattle.entitlements.specs.Entitlements.{accountOf}
 use Prim.Native.Nat.{ℕ}
 use mathlib.Core.Path.{_≡_, ap}
 use mathlib.Core.List.{List}
@@ -7,7 +8,6 @@ use Rattle.facts.specs.Once.{once}
 use Rattle.entitlements.specs.declared.Account.{Account}
 use Rattle.change.specs.declared.Change.{Change}
 use Rattle.change.specs.declared.Step.{Step}
-use Rattle.change.specs.Change.{accountOf}
 
 -- Two changes that meet the promise of `change_of` are the same, and two steps that meet that of `stay`
 pub change-once : (d a b : Change) → a ≡ d → b ≡ d → a ≡ b

@@ -2,7 +2,8 @@
 // runs through many messages keeps the account where it is and changes it there; no account is copied.
 // Like `processing`, from an account that was checked: 41, 42, "old" and 43.
 ghost use mathlib.Core.Path.{_≡_};
-ghost use Rattle.change.specs.Change.{stays, stepped, keeps, activating, cancelling, accountOf, changeOf};
+ghost use Rattle.entitlements.specs.Entitlements.{accountOf};
+ghost use Rattle.change.specs.Change.{stays, stepped, keeps, activating, cancelling, changeOf};
 use entitlements::Answer;
 use entitlements::Kind;
 use halves::Code;

@@ -21,6 +21,10 @@ use Rattle.entitlements.specs.declared.Answered.{Answered}
 abbrev pub empty : Account
 empty = record { high = replicate places 0; low = replicate places 0; active = replicate places 0; last = 0 }
 
+-- An account by its arrays and its last number
+abbrev pub accountOf : List ℕ → List ℕ → List ℕ → ℕ → Account
+accountOf high low active last = record { high = high; low = low; active = active; last = last }
+
 -- ---- What is active
 
 -- What a place holds: a code by its halves

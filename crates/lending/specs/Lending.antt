@@ -6,14 +6,9 @@ use mathlib.Core.List.{List}
 use lib.Dec.{eqb}
 use lib.ListN.{length}
 use Rattle.places.specs.Places.{places}
-use Rattle.entitlements.specs.declared.Account.{Account}
 use Rattle.entitlements.specs.declared.Kind.{Kind}
-use Rattle.entitlements.specs.Entitlements.{Answering, activated, already, cancelled, notActive, old, full, refusal, Done, done, message}
+use Rattle.entitlements.specs.Entitlements.{accountOf, Answering, activated, already, cancelled, notActive, old, full, refusal, Done, done, message}
 use Rattle.lending.specs.declared.Lent.{Lent}
-
--- An account by what is lent
-abbrev pub accountOf : List ℕ → List ℕ → List ℕ → ℕ → Account
-accountOf high low active last = record { high = high; low = low; active = active; last = last }
 
 -- Whether what is lent has 256 places
 abbrev pub isAccount : List ℕ → List ℕ → List ℕ → Bool

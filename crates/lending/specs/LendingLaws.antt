@@ -12,10 +12,10 @@ use Rattle.places.specs.Places.{places}
 use Rattle.entitlements.specs.declared.Account.{Account}
 use Rattle.entitlements.specs.declared.Answered.{Answered}
 use Rattle.entitlements.specs.declared.Kind.{Kind}
-use Rattle.entitlements.specs.Entitlements.{refusal, Done, done, does, message}
+use Rattle.entitlements.specs.Entitlements.{accountOf, refusal, Done, done, does, message}
 use Rattle.entitlements.specs.Sound.{Sized}
 use Rattle.entitlements.specs.Outcomes.{message-sized}
-use Rattle.lending.specs.Lending.{accountOf, lending}
+use Rattle.lending.specs.Lending.{lending}
 
 -- The first i places of an array are those of another
 pub record Copied (from array : List ℕ) (i : ℕ) : Type 0 where

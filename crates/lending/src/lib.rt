@@ -3,8 +3,8 @@
 ghost use mathlib.Core.Path.{_≡_};
 ghost use lib.ListN.{length};
 ghost use Rattle.places.specs.Places.{places};
-ghost use Rattle.entitlements.specs.Entitlements.{says, does, message};
-ghost use Rattle.lending.specs.Lending.{answering, accountOf, lends, lending};
+ghost use Rattle.entitlements.specs.Entitlements.{accountOf, says, does, message};
+ghost use Rattle.lending.specs.Lending.{answering, lends, lending};
 use entitlements::Account;
 use entitlements::Answer;
 use entitlements::Answered;

@@ -9,11 +9,11 @@ use Rattle.facts.specs.Tests.{either-left, either-right, none-of}
 use Rattle.places.specs.Places.{places, lowestPlace}
 use Rattle.places.specs.PlacesLaws.{lowest-least, NoneBelow, none-begin, none-again, none-finish}
 use Rattle.entitlements.specs.declared.Account.{Account}
-use Rattle.entitlements.specs.Entitlements.{twiceAt, noCodeAt, somewhere, largest, noAccount}
+use Rattle.entitlements.specs.Entitlements.{accountOf, twiceAt, noCodeAt, somewhere, largest, noAccount}
 
 -- An account by its arrays: of these alone it goes whether a place is refused
 abbrev pub lent : List ℕ → List ℕ → List ℕ → Account
-lent high low active = record { high = high; low = low; active = active; last = 0 }
+lent high low active = accountOf high low active 0
 
 -- Whether some place has a code that is active twice, or a content that is no code
 abbrev pub badPlace : Account → Bool

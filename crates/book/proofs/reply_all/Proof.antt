@@ -10,8 +10,7 @@ use Rattle.lines.specs.Automaton.{Coming}
 use Rattle.lines.specs.AutomatonLaws.{byte-feed, byte-more}
 use Rattle.output.specs.Replying.{Replying, replying-begin, replying-step, replying-end}
 use Rattle.entitlements.specs.declared.Account.{Account}
-use Rattle.entitlements.specs.Entitlements.{processing}
-use Rattle.change.specs.Change.{accountOf}
+use Rattle.entitlements.specs.Entitlements.{accountOf, processing}
 use Rattle.change.specs.ChangeLaws.{stepped-last}
 use Rattle.book.specs.Said.{posting, coming}
 use Rattle.book.proofs.reply_all.Statement.{statement}

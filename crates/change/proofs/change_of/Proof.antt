@@ -3,7 +3,8 @@ use Prim.Native.Nat.{ℕ}
 use native.Mathlib.Omega.{arith}
 use mathlib.Core.Path.{ap, sym, _∙_}
 use Rattle.entitlements.specs.declared.Kind.{Kind}
-use Rattle.change.specs.Change.{accountOf, activating, cancelling, actingOn}
+use Rattle.entitlements.specs.Entitlements.{accountOf}
+use Rattle.change.specs.Change.{activating, cancelling, actingOn}
 use Rattle.change.specs.ChangeLaws.{change-zero, change-large, change-refused, change-old, change-acts}
 use borrow.Author.Needs.{needs}
 use Rattle.change.proofs.change_of.Statement.{statement}

@@ -1,6 +1,6 @@
 -- `change::put_step` meets its contract: where the step names a place, it is written there. Assumes nothing.
 use mathlib.Core.Path.{sym}
-use Rattle.change.specs.Change.{accountOf}
+use Rattle.entitlements.specs.Entitlements.{accountOf}
 use Rattle.change.specs.ChangeLaws.{stepped-put, stepped-none}
 use borrow.Author.Needs.{needs}
 use Rattle.change.proofs.put_step.Statement.{statement}

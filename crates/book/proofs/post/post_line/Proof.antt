@@ -4,11 +4,11 @@ use Prim.Native.Nat.{ℕ}
 use mathlib.Core.Path.{sym, ap, _∙_}
 use mathlib.Core.List.{List}
 use borrow.Rule.Slice.PartAt.{part-to-end}
-use Rattle.entitlements.specs.Entitlements.{Done, processing}
+use Rattle.entitlements.specs.Entitlements.{accountOf, Done, processing}
 use Rattle.entry.specs.StatedLaws.{stated-message}
 use Rattle.change.specs.declared.Change.{Change}
 use Rattle.change.specs.declared.Step.{Step}
-use Rattle.change.specs.Change.{accountOf, stepped, makes}
+use Rattle.change.specs.Change.{stepped, makes}
 use Rattle.change.specs.ChangeLaws.{change-processing}
 use Rattle.book.specs.SaidLaws.{posting-long, posting-bad, posting-message}
 use borrow.Author.Needs.{needs}
