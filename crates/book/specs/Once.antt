@@ -1,5 +1,5 @@
--- No second answer meets the contracts of `book`: the line that comes in, the account, the room and the output have no choice.
--- Assumes nothing.
+-- No second answer meets the contract of `reply_all`: the line that comes in, the account, the room and the output have no choice.
+-- `reply_last` promises a `Put` alone, for which it is `put-only` of room/specs/RoomLaws.antt. Assumes nothing.
 use Prim.Native.Nat.{ℕ}
 use mathlib.Core.Path.{_≡_, ap, ap₂, sym, _∙_}
 use mathlib.Core.List.{List}
@@ -22,7 +22,3 @@ listed-once comes lent text a b room other out later e k p q =
     let same = e ∙ sym k in
     let put = put-only p q in
     (ap₂ listedBy same (put .0), ap (λ (l : Coming Account). l .room) same, put .1)
-
--- Two answers and outputs that meet the promise of `reply_last` are the same
-pub last-once : (lent text : List ℕ) (a b : ℕ) (out later : List ℕ) → Put lent 0 text a out → Put lent 0 text b later → (a ≡ b) × (out ≡ later)
-last-once lent text a b out later p q = put-only p q

@@ -1,6 +1,7 @@
 // What a message changes in an account: its answer, the last number, and what is put at one place. Who
 // runs through many messages keeps the account where it is and changes it there; no account is copied.
-// Like `processing`, from an account that was checked: 41, 42, "old" and 43.
+// For an account that was checked: 41, 42, "old" and 43. The check on the whole account, 40, is in
+// `message`.
 ghost use mathlib.Core.Path.{_≡_};
 ghost use Rattle.entitlements.specs.Entitlements.{accountOf};
 ghost use Rattle.change.specs.Change.{stays, stepped, keeps, activating, cancelling, changeOf};

@@ -1,5 +1,5 @@
 // The account of entitlements: what it keeps, the messages that it takes and what it answers. The
-// definitions are in specs/Entitlements.antt; `processing` and `message` do the work.
+// definitions are in specs/Entitlements.antt; `change` and `message` do the work.
 ghost use mathlib.Core.Path.{_≡_};
 ghost use Rattle.entitlements.specs.Entitlements.{empty as Entitlements·empty, says};
 use places::PLACES;
