@@ -4,9 +4,9 @@ ghost use Prim.Native.Nat.{_<_};
 ghost use mathlib.Core.Path.{_≡_};
 ghost use Rattle.places.specs.Places.{places};
 ghost use Rattle.entitlements.specs.declared.Kind.the-variants.{Activate, Cancel};
-ghost use Rattle.entitlements.specs.Entitlements.{twiceAt, noCodeAt, noAccount, does, message};
+ghost use Rattle.entitlements.specs.Entitlements.{noAccount, does, message};
 ghost use Rattle.change.specs.Change.{stepped as Change·stepped};
-ghost use Rattle.message.specs.Lent.{lent, badPlace};
+ghost use Rattle.message.specs.Lent.{lent, badAt, badPlace};
 use change::Step;
 use entitlements::Account;
 use entitlements::Answer;
@@ -15,15 +15,16 @@ use entitlements::Kind;
 use halves::Halves;
 use places::PLACES;
 
-// Whether a place is active with a code that is active at a lower place too.
-fn is_twice<'a>(
+// Whether a place is active with a code that is active at a lower place too, or with a content that is no
+// code.
+fn is_bad<'a>(
     high: &'a [u64; PLACES],
     low: &'a [u64; PLACES],
     active: &'a [u64; PLACES],
     i: usize,
 ) -> bool
     requires { ⌜ i < places ⌝ }
-    ensures { λ r. ⌜ r ≡ twiceAt (lent (now (high .entry)) (now (low .entry)) (now (active .entry))) i ⌝ }
+    ensures { λ r. ⌜ r ≡ badAt (lent (now (high .entry)) (now (low .entry)) (now (active .entry))) i ⌝ }
 {
     if active[i] == 0 {
         return false;
@@ -32,39 +33,23 @@ fn is_twice<'a>(
         high: high[i],
         low: low[i],
     };
-    places::code_place(high, low, active, code) < i
-}
-
-// Whether a place is active with a content that is no code.
-fn is_no_code<'a>(
-    high: &'a [u64; PLACES],
-    low: &'a [u64; PLACES],
-    active: &'a [u64; PLACES],
-    i: usize,
-) -> bool
-    requires { ⌜ i < places ⌝ }
-    ensures { λ r. ⌜ r ≡ noCodeAt (lent (now (high .entry)) (now (low .entry)) (now (active .entry))) i ⌝ }
-{
-    if active[i] == 0 {
-        return false;
+    if places::code_place(high, low, active, code) < i {
+        return true;
     }
-    let code = Halves {
-        high: high[i],
-        low: low[i],
-    };
     !halves::is_code(code)
 }
 
-// Whether there is a place of either kind.
-fn bad_place<'a>(high: &'a [u64; PLACES], low: &'a [u64; PLACES], active: &'a [u64; PLACES]) -> bool
+// Whether there is such a place.
+fn bad_place<'a>(
+    high: &'a [u64; PLACES],
+    low: &'a [u64; PLACES],
+    active: &'a [u64; PLACES],
+) -> bool
     ensures { λ r. ⌜ r ≡ badPlace (lent (now (high .entry)) (now (low .entry)) (now (active .entry))) ⌝ }
 {
     let mut i = 0;
     while i < PLACES {
-        if is_twice(high, low, active, i) {
-            return true;
-        }
-        if is_no_code(high, low, active, i) {
+        if is_bad(high, low, active, i) {
             return true;
         }
         i += 1;

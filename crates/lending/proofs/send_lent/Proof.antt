@@ -46,12 +46,14 @@ hand-back-requires-2 c κs = search needs
 
 hand-back-requires-3 : tie.Need-hand-back-requires-3
 hand-back-requires-3 c κs =
-    let asked = c .before .before .before .before .before .before .before .before .before .before .before .before .before .before .before .before .before .before .before .before .before .before .before .before .before .before .args in
-    let high = c .before .before .before .before .before .before .before .before .before .before .before .before .before .before .before .before .before .before .before .before .before .if1 .left in
-    let low = c .before .before .before .before .before .before .before .before .before .before .before .before .before .before .before .before .before .before .before .before .if2 .left in
-    let active = c .before .before .before .before .before .before .before .before .before .before .before .before .before .before .before .before .before .before .before .if3 .left in
+    let sent = c .before .before .before .before .before .before .before .before .before .before .before .before .before .before in
+    let three = sent .before .before .before .before .before in
+    let two = three .before in
+    let one = two .before in
+    let asked = one .before .before .before .before .before .args in
     let sized = sends-sized (asked .kind) (asked .high .now) (asked .low .now) (asked .active .now) (asked .last) (asked .text .now)
-    (asked .number) high low active (c .before .before .before .before .before .before .before .before .before .before .before .before .before .before .send .result) (c .before .before .before .before .before .before .before .before .before .before .before .before .before .before .before .taken-in .ensures) (c .before .before .before .before .before .before .before .before .before .before .before .before .before .before .send .ensures) in
+    (asked .number) (one .if1 .left) (two .if2 .left) (three .if3 .left) (sent .send .result) (sent .before .taken-in .ensures)
+    (sent .send .ensures) in
     (search needs, sized .actives)
 
 same-length : tie.Need-same-length
@@ -65,16 +67,21 @@ same-length-3 c = search needs
 
 returns-4 : tie.Need-returns-4
 returns-4 c =
-    let asked = c .before .before .before .before .before .before .before .before .before .before .before .before .before .before .before .before .before .before .before .before .before .before .before .before .before .before .before .before .before .args in
-    let high = c .before .before .before .before .before .before .before .before .before .before .before .before .before .before .before .before .before .before .before .before .before .before .before .before .if1 .left in
-    let low = c .before .before .before .before .before .before .before .before .before .before .before .before .before .before .before .before .before .before .before .before .before .before .before .if2 .left in
-    let active = c .before .before .before .before .before .before .before .before .before .before .before .before .before .before .before .before .before .before .before .before .before .before .if3 .left in
+    let third = c .before .before in
+    let second = third .before .before .before .before .before in
+    let first = second .before .before .before .before .before in
+    let coded = first .before .before .before .before in
+    let sent = coded .before in
+    let three = sent .before .before .before .before .before in
+    let two = three .before in
+    let one = two .before in
+    let asked = one .before .before .before .before .before .args in
     let sends = lending-sends (asked .kind) (asked .high .now) (asked .low .now) (asked .active .now) (asked .last) (asked .text .now)
-    (asked .number) high low active in
-    rw (c .before .before .before .before .before .before .before .before .before .before .before .before .hand-back .ensures, c .before .before .before .before .before .before .before .hand-back2 .ensures, c .before .before .hand-back3 .ensures)
-    (ap (λ (answer : Answering). done answer (c .before .before .before .before .before .before .before .before .before .before .before .before .before .before .before .before .before .send .result .account)) (c .before .before .before .before .before .before .before .before .before .before .before .before .before .before .before .before .answer-code .ensures)
-    ∙ c .before .before .before .before .before .before .before .before .before .before .before .before .before .before .before .before .before .send .ensures
-    ∙ ap (λ (account : Account). message (asked .kind) account (asked .text .now) (asked .number)) (c .before .before .before .before .before .before .before .before .before .before .before .before .before .before .before .before .before .before .taken-in .ensures)
+    (asked .number) (one .if1 .left) (two .if2 .left) (three .if3 .left) in
+    rw (first .hand-back .ensures, second .hand-back2 .ensures, third .hand-back3 .ensures)
+    (ap (λ (answer : Answering). done answer (sent .send .result .account)) (coded .answer-code .ensures)
+    ∙ sent .send .ensures
+    ∙ ap (λ (account : Account). message (asked .kind) account (asked .text .now) (asked .number)) (sent .before .taken-in .ensures)
     ∙ sym sends)
 
 pub send-lent-spec : {M : Type 1} → statement M
