@@ -40,11 +40,7 @@ fn is_bad<'a>(
 }
 
 // Whether there is such a place.
-fn bad_place<'a>(
-    high: &'a [u64; PLACES],
-    low: &'a [u64; PLACES],
-    active: &'a [u64; PLACES],
-) -> bool
+fn bad_place<'a>(high: &'a [u64; PLACES], low: &'a [u64; PLACES], active: &'a [u64; PLACES]) -> bool
     ensures { λ r. ⌜ r ≡ badPlace (lent (now (high .entry)) (now (low .entry)) (now (active .entry))) ⌝ }
 {
     let mut i = 0;
