@@ -3,13 +3,11 @@
 use Prim.Native.Nat.{ℕ, _+_, _*_, _/_, _%_, _^_, _<_}
 use native.Mathlib.Omega.{arith}
 use mathlib.Core.Path.{_≡_, refl, ap, ap₂, _∙_, sym, subst}
-use mathlib.Core.Bool.{Bool, true, false, cond, _&&_, true≢false}
+use mathlib.Core.Bool.{Bool, true, false, cond}
 use mathlib.Core.List.{List, [], _∷_, _++_, map, map-append, append-assoc}
 use lib.Dec.{eqb}
-use lib.ListN.{length, take, drop}
 use lib.Seq.{take-at, drop-at}
-use borrow.Author.Tests.{eqb-true, ne-eqb, lt-ltb, ltb-true}
-use Rattle.facts.specs.Tests.{both}
+use borrow.Author.Tests.{eqb-true, lt-ltb}
 use Rattle.letters.specs.Alphabet.{letterIn}
 use Rattle.letters.specs.Digits.{digits, digits-are, digits-value, value-digits}
 use Rattle.letters.specs.Letters.{letters, spelledIn, numberIn}
@@ -26,7 +24,7 @@ use Rattle.spelling.specs.SpellingLaws.{
   letters-spell,
   spelled-twenty,
 }
-use Rattle.code.specs.Code.{Told, tellsNothing, reading, readingNumbers, readingOn}
+use Rattle.code.specs.Code.{Told, tellsNothing, reading, readingNumbers}
 use Rattle.code.specs.ReadingLaws.{reading-letters}
 use Rattle.halves.specs.declared.Halves.{Halves}
 use Rattle.halves.specs.declared.Code.the-variants.{Read, Refused}

@@ -6,7 +6,7 @@ use mathlib.Core.Bool.{Bool, true, false, cond}
 use mathlib.Core.List.{List}
 use lib.Dec.{eqb}
 use lib.ListN.{length, getD}
-use borrow.Author.Tests.{eqb-true, ne-eqb, eqb-false}
+use borrow.Author.Tests.{eqb-true}
 use Rattle.facts.specs.Once.{once}
 use Rattle.entitlements.specs.Entitlements.{Answering, Done}
 use Rattle.lending.specs.declared.Lent.{Lent}
