@@ -134,14 +134,14 @@ struct linenspruce_reading {
 };
 
 /* Codes a unit by the quick road. The numbers are the corners' latitude, longitude, latitude, .. and
- * their count is of numbers, two a corner. Replies 0 to 8 and 31. */
+ * their count is of numbers, two a corner. Replies 0 to 7 and 31. */
 struct linenspruce_reply linenspruce_code_quick(
     uint8_t *room, size_t room_length,
     const uint32_t *numbers, size_t numbers_count,
     struct linenspruce_kind kind, uint32_t number);
 
 /* The same answer by the plain road, which tries the cells of each level in turn. It is for
- * comparison on small units: with a large thin one it takes very long. Replies 0 to 8 and 31. */
+ * comparison on small units: with a large thin one it takes very long. Replies 0 to 7 and 31. */
 struct linenspruce_reply linenspruce_code_plain(
     uint8_t *room, size_t room_length,
     const uint32_t *numbers, size_t numbers_count,

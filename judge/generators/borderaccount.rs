@@ -73,7 +73,7 @@ const MALFORMED: [&[u8]; 57] = [
     b"A 00000000000000000005000 00000000001UY1120000",
 ];
 
-/// The numbers below are all under 5,000, so that a random history can follow.
+/// The numbers that are used up here are all under 5,000, so that a random history can follow.
 pub fn border_account(output: &mut impl Write) -> io::Result<()> {
     let groups =
         [answers(), numbers(), texts(), malformed(), long(), filled(), reused(), emptied()];

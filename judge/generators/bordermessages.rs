@@ -126,7 +126,10 @@ fn numbers() -> Lines {
         numbers.extend(around.into_iter().chain([MESSAGE_MAX + 1, u64::MAX]));
         numbers.sort_unstable();
         numbers.dedup();
-        lines.extend(numbers.iter().map(|&number| message_line('A', number, &one, &[], CODES[1])));
+        for (kind, code) in [('A', CODES[1]), ('C', CODES[0])] {
+            let line = |&number| message_line(kind, number, &one, &[], code);
+            lines.extend(numbers.iter().map(line));
+        }
     }
     lines
 }

@@ -1,5 +1,5 @@
-// The account program of document 02, request 3: a message a line on standard input, a reply a line on
-// standard output, from an empty account.
+// The program over the account of document 02, request 3: a message a line on standard input, a reply a
+// line on standard output, from an empty account.
 //
 // What is written is decided in `book`; here bytes only come in and go out. The replies of a read are
 // written before the next read, in one piece. A read or a write that fails ends the program, which says
@@ -23,7 +23,7 @@ use libc::STDOUT_FILENO;
 const READ: usize = 32768;
 
 // Room for a reply to each byte of a read, which may all be line feeds.
-const WRITTEN: usize = READ * book::REPLY;
+const WRITTEN: usize = READ * lines::REPLY;
 
 fn main() {
     let mut input = [0u8; READ];

@@ -14,9 +14,6 @@ ghost use Rattle.entitlements.specs.Entitlements.{processing};
 ghost use Rattle.book.specs.Said.{posting, coming};
 use entitlements::Account;
 
-// No reply has more bytes: the line's number, `refused`, number and place.
-pub const REPLY: usize = 71;
-
 // The line that comes in: its number, and how many of its bytes stand in the room.
 pub struct Line {
     pub number: u64,

@@ -3,9 +3,9 @@ ghost use mathlib.Core.Path.{_≡_};
 ghost use lib.ListN.{take};
 ghost use Rattle.room.specs.Room.{Put};
 ghost use Rattle.lines.specs.Lines.{refused, replyLine};
-ghost use Rattle.entitlements.specs.Entitlements.{accountOf, says, processing};
-ghost use Rattle.change.specs.Change.{stays, stepped};
-ghost use Rattle.book.specs.Said.{replyOf, posting};
+ghost use Rattle.entitlements.specs.Entitlements.{accountOf, says};
+ghost use Rattle.change.specs.Change.{stays};
+ghost use Rattle.book.specs.Said.{replyOf, replyTo, StepsBy};
 use change::Step;
 use entitlements::Answer;
 use entry::Stated;
@@ -30,8 +30,8 @@ pub(crate) fn post_held<'a>(
     out: &mut [u8],
     at: usize,
 ) -> Posted
-    ensures { λ r. ⌜ stepped (r .step) (accountOf (now (high .entry)) (now (low .entry)) (now (active .entry)) last) ≡ posting processing (accountOf (now (high .entry)) (now (low .entry)) (now (active .entry)) last) (take len (now (room .entry))) .state ⌝ }
-    ensures { λ r. ⌜ Put (now (out .entry)) at (replyLine number (posting processing (accountOf (now (high .entry)) (now (low .entry)) (now (active .entry)) last) (take len (now (room .entry))) .reply)) (r .put) (now (out .exit)) ⌝ }
+    ensures { λ r. ⌜ StepsBy (take len (now (room .entry))) (accountOf (now (high .entry)) (now (low .entry)) (now (active .entry)) last) (r .step) ⌝ }
+    ensures { λ r. ⌜ Put (now (out .entry)) at (replyTo number (accountOf (now (high .entry)) (now (low .entry)) (now (active .entry)) last) (take len (now (room .entry)))) (r .put) (now (out .exit)) ⌝ }
 {
     if room.len() < len {
         return post_line(number, high, low, active, last, room, out, at);
@@ -50,8 +50,8 @@ fn post_line<'a>(
     out: &mut [u8],
     at: usize,
 ) -> Posted
-    ensures { λ r. ⌜ stepped (r .step) (accountOf (now (high .entry)) (now (low .entry)) (now (active .entry)) last) ≡ posting processing (accountOf (now (high .entry)) (now (low .entry)) (now (active .entry)) last) (now (line .entry)) .state ⌝ }
-    ensures { λ r. ⌜ Put (now (out .entry)) at (replyLine number (posting processing (accountOf (now (high .entry)) (now (low .entry)) (now (active .entry)) last) (now (line .entry)) .reply)) (r .put) (now (out .exit)) ⌝ }
+    ensures { λ r. ⌜ StepsBy (now (line .entry)) (accountOf (now (high .entry)) (now (low .entry)) (now (active .entry)) last) (r .step) ⌝ }
+    ensures { λ r. ⌜ Put (now (out .entry)) at (replyTo number (accountOf (now (high .entry)) (now (low .entry)) (now (active .entry)) last) (now (line .entry))) (r .put) (now (out .exit)) ⌝ }
 {
     if line.len() > lines::LONGEST {
         return refuse(last, out, at, number, 10);

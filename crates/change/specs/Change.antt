@@ -12,7 +12,7 @@ use Rattle.entitlements.specs.declared.Kind.{Kind}
 use Rattle.entitlements.specs.declared.Kind.the-variants.{Activate, Cancel}
 use Rattle.entitlements.specs.declared.Answer.{Answer}
 use Rattle.entitlements.specs.declared.Answer.the-variants as answer
-use Rattle.entitlements.specs.Entitlements.{placeOf, used, putAt, largest, says, Done, done}
+use Rattle.entitlements.specs.Entitlements.{placeOf, used, putAt, zeros, largest, says, Done, done}
 use Rattle.change.specs.declared.Change.{Change}
 use Rattle.change.specs.declared.Step.{Step}
 
@@ -24,7 +24,7 @@ stepTo last place code active = record { last = last; place = place; code = code
 
 -- nothing is put: 256 is no place
 abbrev pub stays : ℕ → Step
-stays last = stepTo last places (record { high = 0; low = 0 }) 0
+stays last = stepTo last places zeros 0
 
 -- the account after a step
 abbrev pub stepped : Step → Account → Account
@@ -59,7 +59,7 @@ activating active place code number =
 -- a cancellation of one
 unfoldable pub cancelling : ℕ → ℕ → Change
 cancelling place number =
-    cond (ltb place places) (puts answer.Cancelled number place (record { high = 0; low = 0 }) 0) (keeps answer.NotActive number)
+    cond (ltb place places) (puts answer.Cancelled number place zeros 0) (keeps answer.NotActive number)
 
 -- either message, of a code
 abbrev pub actingOn : Kind → Account → Halves → ℕ → Change

@@ -15,7 +15,7 @@ use Rattle.entitlements.specs.declared.Account.{Account}
 use Rattle.entitlements.specs.declared.Kind.{Kind}
 use Rattle.entitlements.specs.declared.Kind.the-variants.{Activate, Cancel}
 use Rattle.entitlements.specs.declared.Answer.the-variants as answer
-use Rattle.entitlements.specs.Entitlements.{accountOf, placeOf, freePlace, used, putAt, activation, cancellation, acting, largest, processing, done, refusal, old}
+use Rattle.entitlements.specs.Entitlements.{accountOf, placeOf, freePlace, used, putAt, zeros, activation, cancellation, acting, largest, processing, done, refusal, old}
 use Rattle.change.specs.declared.Step.{Step}
 use Rattle.change.specs.Change.{stepped, keeps, puts, makes, activating, cancelling, actingOn, changeOf}
 
@@ -93,7 +93,7 @@ module _ (active : List ℕ) (place : ℕ) (code : Halves) (number : ℕ) where
 
 module _ (place number : ℕ) where
   pub cancelling-cleared : place < places
-      → cancelling place number ≡ puts answer.Cancelled number place (record { high = 0; low = 0 }) 0
+      → cancelling place number ≡ puts answer.Cancelled number place zeros 0
   unfolding cancelling
   cancelling-cleared h = rw (lt-ltb place places h)
 

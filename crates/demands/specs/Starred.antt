@@ -7,7 +7,7 @@ use mathlib.Core.List.{List, [], _∷_, map}
 use lib.Dec.{T, eqb}
 use lib.ListN.{replicate}
 use Rattle.replies.specs.Replies.{Said}
-use Rattle.facts.specs.Texts.{bytes}
+use Rattle.facts.specs.Texts.{bytes, sameText}
 use Rattle.ground.specs.declared.Point.{Point}
 use Rattle.ground.specs.declared.Rectangle.{Rectangle}
 use Rattle.ground.specs.declared.Cell.{Cell}
@@ -80,13 +80,6 @@ starred =
     ∷ refusesText "00000000001UY112000O" 12 19
     ∷ []
 
--- Two texts are the same
-abbrev pub same : List ℕ → List ℕ → Bool
-same [] [] = true
-same [] (y ∷ ys) = false
-same (x ∷ xs) [] = false
-same (x ∷ xs) (y ∷ ys) = eqb x y && same xs ys
-
 -- An answer says a number and a place
 abbrev pub saying : Said → ℕ → ℕ → Bool
 saying s number place = eqb (s .number) number && eqb (s .place) place
@@ -136,15 +129,15 @@ annexB digits =
 -- A case comes out as the table says
 abbrev pub holds : Case → Bool
 holds (codes kind number corners code) =
-    saying (coding room corners kind number .said) 0 0 && same (coding room corners kind number .room) (bytes code)
+    saying (coding room corners kind number .said) 0 0 && sameText (coding room corners kind number .room) (bytes code)
 holds (refuses kind number corners refusal) =
-    saying (coding room corners kind number .said) refusal 0 && same (coding room corners kind number .room) room
+    saying (coding room corners kind number .said) refusal 0 && sameText (coding room corners kind number .room) room
 holds (oneCell corners level lat lon) = isUnit (chosenCell (cornersOf corners)) (extremesOf (cornersOf corners)) level lat lon
 holds (centres corners level lat lon) = centred (chosenCell (cornersOf corners)) level lat lon
 holds (reads code west east south north) = sides (reading (bytes code)) west east south north
 holds (refusesText text refusal place) = saying (reading (bytes text) .said) refusal place
 holds (scales span level) = eqb (scaleOf span) level
-holds (spells digits text) = same (annexB digits) (bytes text)
+holds (spells digits text) = sameText (annexB digits) (bytes text)
 
 -- Every case of a table comes out so
 abbrev pub every : List Case → Bool

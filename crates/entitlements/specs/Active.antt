@@ -12,7 +12,7 @@ use lib.ListN.{length, getD, replicate, set, length-set}
 use borrow.Author.Tests.{eqb-true, eq-eqb, ne-eqb, lt-ltb, ltb-true, ltb-false, not-true, not-false}
 use Rattle.facts.specs.Tests.{both, same-truth}
 use Rattle.halves.specs.declared.Halves.{Halves}
-use Rattle.halves.specs.Halves.{sameCode}
+use Rattle.halves.specs.Halves.{halvesBy, sameCode}
 use Rattle.places.specs.Places.{places, isFree, holds, lowestPlace}
 use Rattle.places.specs.PlacesLaws.{lowest-before, lowest-passes, lowest-least}
 use Rattle.entitlements.specs.declared.Account.{Account}
@@ -68,15 +68,11 @@ somewhere-but one other p h off same = at (other p) refl
 
 -- ---- codes compared
 
--- A code by its two halves
-abbrev pub halvesOf : ℕ → ℕ → Halves
-halvesOf high low = record { high = high; low = low }
-
 -- Codes that are the same by the test are equal
 pub same-code : (a b : Halves) → sameCode a b ≡ true → a ≡ b
 same-code a b e =
     let parts = both (eqb (a .high) (b .high)) (eqb (a .low) (b .low)) e in
-    ap₂ halvesOf (eqb-true (a .high) (b .high) (parts .0)) (eqb-true (a .low) (b .low) (parts .1))
+    ap₂ halvesBy (eqb-true (a .high) (b .high) (parts .0)) (eqb-true (a .low) (b .low) (parts .1))
 
 -- and the other way round
 pub code-same : (a b : Halves) → a ≡ b → sameCode a b ≡ true

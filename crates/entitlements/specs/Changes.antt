@@ -12,7 +12,7 @@ use lib.Seq.{getD-set-same, getD-set-other}
 use borrow.Author.Tests.{ltb-true, not-true}
 use Rattle.facts.specs.Tests.{both, fails-left, fails-right}
 use Rattle.halves.specs.declared.Halves.{Halves}
-use Rattle.halves.specs.Halves.{sameCode, isCode}
+use Rattle.halves.specs.Halves.{halvesBy, sameCode, isCode}
 use Rattle.places.specs.Places.{places, isFree}
 use Rattle.entitlements.specs.declared.Account.{Account}
 use Rattle.entitlements.specs.Entitlements.{
@@ -26,13 +26,13 @@ use Rattle.entitlements.specs.Entitlements.{
   used,
   putAt,
   taken,
+  zeros,
   cleared,
   largest,
 }
 use Rattle.entitlements.specs.Active.{
   somewhere-but,
   nowhere,
-  halvesOf,
   same-code,
   holdsAt,
   place-active,
@@ -76,7 +76,7 @@ module _ (number : ℕ) (account : Account) (p : ℕ) (code : Halves) (on : ℕ)
 
   placed-code : Sized account → p < places → codeAt placed p ≡ code
   placed-code sized h =
-      ap₂ halvesOf
+      ap₂ halvesBy
       (getD-set-same (account .high) p (code .high) 0 (omega (arith, h, sized .highs)))
       (getD-set-same (account .low) p (code .low) 0 (omega (arith, h, sized .lows)))
 
@@ -86,7 +86,7 @@ module _ (number : ℕ) (account : Account) (p : ℕ) (code : Halves) (on : ℕ)
 
   other-code : (i : ℕ) → i ≢ p → codeAt placed i ≡ codeAt account i
   other-code i n =
-      ap₂ halvesOf (getD-set-other (account .high) p i (code .high) 0 n) (getD-set-other (account .low) p i (code .low) 0 n)
+      ap₂ halvesBy (getD-set-other (account .high) p i (code .high) 0 n) (getD-set-other (account .low) p i (code .low) 0 n)
 
   other-holds : (d : Halves) (i : ℕ) → i ≢ p → holdsAt placed d i ≡ holdsAt account d i
   other-holds d i n = ap₂ (λ (a : Bool) (c : Halves). a && sameCode c d) (other-active i n) (other-code i n)
@@ -158,21 +158,17 @@ module _ (number : ℕ) {account : Account} (code : Halves) (sound : Sound accou
 -- ---- the place of an active code cleared
 
 module _ (number : ℕ) {account : Account} (code : Halves) (sound : Sound account) (was : isActive account code ≡ true) where
-  -- What a cleared place holds
-  abbrev nothing : Halves
-  nothing = record { high = 0; low = 0 }
-
   place-within : placeOf account code < places
   place-within = ltb-true (placeOf account code) places was
 
   -- The place is not active
   place-cleared : activeAt (cleared number account code) (placeOf account code) ≡ false
-  place-cleared = placed-active number account (placeOf account code) nothing 0 (sound .sized) place-within
+  place-cleared = placed-active number account (placeOf account code) zeros 0 (sound .sized) place-within
 
   -- The account stays sound
   pub cleared-sound : number ≤ largest → Sound (cleared number account code)
   cleared-sound k =
-      placed-sound number account (placeOf account code) nothing 0 sound place-within k (λ a. absurd (true≢false (sym a ∙ place-cleared)))
+      placed-sound number account (placeOf account code) zeros 0 sound place-within k (λ a. absurd (true≢false (sym a ∙ place-cleared)))
 
   -- The active codes are those that were, without this one
   pub cleared-active : (d : Halves) → isActive (cleared number account code) d ≡ (not (sameCode code d) && isActive account d)
@@ -193,12 +189,12 @@ module _ (number : ℕ) {account : Account} (code : Halves) (sound : Sound accou
       -- so no place has it
       gone : code ≡ d → (i : ℕ) → i < places → Dec (i ≡ placeOf account code) → holdsAt afterwards d i ≡ false
       gone s i h (yes q) = fails-left (sameCode (codeAt afterwards i) d) (ap (λ (j : ℕ). activeAt afterwards j) q ∙ place-cleared)
-      gone s i h (no n) = other-holds number account (placeOf account code) nothing 0 d i n ∙ other-place s i h n (holdsAt account d i) refl
+      gone s i h (no n) = other-holds number account (placeOf account code) zeros 0 d i n ∙ other-place s i h n (holdsAt account d i) refl
 
       at : (b : Bool) → sameCode code d ≡ b → isActive afterwards d ≡ (not b && isActive account d)
       at true e = nowhere (holdsAt afterwards d) (λ i h. gone (same-code code d e) i h (ℕ-discrete i (placeOf account code)))
       at false e =
-          placed-among number account (placeOf account code) nothing 0 d place-within
+          placed-among number account (placeOf account code) zeros 0 d place-within
           (fails-right (activeAt account (placeOf account code))
           (ap (λ (c : Halves). sameCode c d) (place-active account code place-within .1) ∙ e))
           ∙ ap (λ (b : Bool). b || isActive account d) (fails-left (sameCode (codeAt afterwards (placeOf account code)) d) place-cleared)

@@ -7,7 +7,7 @@ use lib.Dec.{eqb, leb, ltb}
 use lib.ListN.{replicate, set}
 use Rattle.facts.specs.Texts.{bytes}
 use Rattle.halves.specs.declared.Halves.{Halves}
-use Rattle.halves.specs.Halves.{halvesIn, readable, isCode}
+use Rattle.halves.specs.Halves.{halvesBy, halvesIn, readable, isCode}
 use Rattle.places.specs.Places.{places, isFree, codeOn, holds, lowestPlace}
 use Rattle.entitlements.specs.declared.Account.{Account}
 use Rattle.entitlements.specs.declared.Kind.{Kind}
@@ -144,9 +144,13 @@ putAt account place code active number = record {
 abbrev pub taken : ℕ → Account → Halves → Account
 taken number account code = putAt account (freePlace account) code 1 number
 
+-- What a cleared place holds
+abbrev pub zeros : Halves
+zeros = halvesBy 0 0
+
 -- "a cancelled place is cleared to zero and used again"
 abbrev pub cleared : ℕ → Account → Halves → Account
-cleared number account code = putAt account (placeOf account code) (record { high = 0; low = 0 }) 0 number
+cleared number account code = putAt account (placeOf account code) zeros 0 number
 
 -- An activation of a code: "already"; "43 full, exactly when an activation finds 256 others active and its code not"
 unfoldable pub activation : Account → Halves → ℕ → Done

@@ -29,6 +29,7 @@ use Rattle.entitlements.specs.Entitlements.{
   done,
   used,
   taken,
+  zeros,
   cleared,
   acting,
   activation,
@@ -130,7 +131,7 @@ outcome-sized sized (finds-full p e f) = record { highs = sized .highs; lows = s
 outcome-sized {account} {text} {number} sized (activates p e f) = placed-sized number account (freePlace account) (halvesIn text) 1 sized
 outcome-sized sized (finds-inactive p e) = record { highs = sized .highs; lows = sized .lows; actives = sized .actives }
 outcome-sized {account} {text} {number} sized (cancels p e) =
-    placed-sized number account (placeOf account (halvesIn text)) (record { high = 0; low = 0 }) 0 sized
+    placed-sized number account (placeOf account (halvesIn text)) zeros 0 sized
 
 -- 40 does not come
 outcome-not-40 : {account : Account} {text : List ℕ} {number : ℕ} {kind : Kind} {d : Done} → Outcome account text number kind d

@@ -1,6 +1,5 @@
-// The message that a line states: document 02, request 3, "`A` or `C`, a space, the message number
-// (decimal, no leading zero, at most 18,446,744,073,709,551,615), a space, the code as the rest of the
-// line."
+// The message that a line states: `A` or `C`, a space, the message number, a space, and the code as the
+// rest of the line (docs/REGISTER.md, "Message lines").
 ghost use mathlib.Core.Path.{_≡_};
 ghost use Rattle.entry.specs.Stated.{statedOf, statedAfter};
 use entitlements::Kind;

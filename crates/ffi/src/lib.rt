@@ -1,8 +1,8 @@
 // The library for other languages: coding by either road, reading, writing and the two messages to an
 // account under C's names. Each function hands its input to the crate that does the work and says the
-// reply in numbers; an account crosses as three lent arrays and its last number. The
-// definitions are in specs/: the replies in Replies.antt, their laws in Replying.antt, and in Once.antt
-// that no second reply would do.
+// reply in numbers. The definitions are in specs/: the replies in Replies.antt, their laws in
+// Replying.antt, and in Once.antt that no second reply would do. An account crosses as three lent arrays
+// and its last number: for that they are in `lending`.
 ghost use mathlib.Core.Path.{_≡_};
 ghost use Rattle.code.specs.Code.{reading, writing, tells as Code·tells, tellsNothing};
 ghost use Rattle.unit.specs.Unit.{kindOf, coding};

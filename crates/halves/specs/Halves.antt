@@ -10,9 +10,13 @@ use Rattle.halves.specs.declared.Halves.{Halves}
 use Rattle.halves.specs.declared.Code.{Code}
 use Rattle.halves.specs.declared.Code.the-variants.{Read, Refused}
 
+-- A code by its two halves
+abbrev pub halvesBy : ℕ → ℕ → Halves
+halvesBy high low = record { high = high; low = low }
+
 -- A half is ten letters as a number in base 32, high first: the halves of a text
 abbrev pub halvesIn : List ℕ → Halves
-halvesIn text = record { high = numberIn letters (take 10 text); low = numberIn letters (drop 10 text) }
+halvesIn text = halvesBy (numberIn letters (take 10 text)) (numberIn letters (drop 10 text))
 
 -- and the twenty letters of halves
 abbrev pub spelledHalves : Halves → List ℕ
@@ -32,7 +36,7 @@ isCode halves = ltb (halves .high) (32 ^ 10) && (ltb (halves .low) (32 ^ 10) && 
 
 -- The halves of two numbers of a text: the location's last letter goes to the low half
 abbrev pub cutOf : ℕ → ℕ → Halves
-cutOf location rest = record { high = location / 32; low = location % 32 * 32 ^ 9 + rest % 32 ^ 9 }
+cutOf location rest = halvesBy (location / 32) (location % 32 * 32 ^ 9 + rest % 32 ^ 9)
 
 -- The code of two numbers of a text
 abbrev pub codeOf : ℕ → ℕ → Code

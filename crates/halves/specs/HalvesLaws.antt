@@ -29,7 +29,7 @@ use Rattle.code.specs.ReadingLaws.{reading-letters}
 use Rattle.halves.specs.declared.Halves.{Halves}
 use Rattle.halves.specs.declared.Code.the-variants.{Read, Refused}
 use Rattle.halves.specs.declared.Code.{Code}
-use Rattle.halves.specs.Halves.{halvesIn, spelledHalves, readable, accepted, isCode, cutOf, codeOf, codeIn}
+use Rattle.halves.specs.Halves.{halvesBy, halvesIn, spelledHalves, readable, accepted, isCode, cutOf, codeOf, codeIn}
 
 -- The last ten digits of a number that has no more, the first of them apart
 first-of-ten : (x : ℕ) → x < 32 ^ 10 → digits 10 x ≡ (x / 32 ^ 9) ∷ digits 9 (x % 32 ^ 9)
@@ -91,12 +91,9 @@ module _ {text : List ℕ} (t : TwentyLetters text) where
       let high : List ℕ = spelledIn letters 10 (cutIn .high) in
       let low : List ℕ = spelledIn letters 10 (cutIn .low) in
       ap halvesIn (sym cut-spelled)
-      ∙ ap₂ halvesOf
+      ∙ ap₂ halvesBy
       (ap (numberIn letters) (take-at high low 10 refl) ∙ number-spelled letters letters-distinct refl 10 (cutIn .high) cut-high)
       (ap (numberIn letters) (drop-at high low 10 refl) ∙ number-spelled letters letters-distinct refl 10 (cutIn .low) cut-low)
-    where
-      halvesOf : ℕ → ℕ → Halves
-      halvesOf a b = record { high = a; low = b }
 
 -- ---- what a text is to an account
 
@@ -138,9 +135,9 @@ abbrev isRead : Code → Bool
 isRead (Read halves) = true
 isRead Refused = false
 
-abbrev halvesOf : Halves → Code → Halves
-halvesOf other (Read halves) = halves
-halvesOf other Refused = other
+abbrev halvesRead : Halves → Code → Halves
+halvesRead other (Read halves) = halves
+halvesRead other Refused = other
 
 module _ (text : List ℕ) where
   -- Whether it is read
@@ -160,4 +157,4 @@ module _ (text : List ℕ) where
   unfolding codeIn
   code-read {code} e =
       let read : readable text ≡ true = sym code-readable ∙ ap isRead e in
-      (read, ap (λ (b : Bool). halvesOf code (cond b (Read (halvesIn text)) Refused)) (sym read) ∙ ap (halvesOf code) e)
+      (read, ap (λ (b : Bool). halvesRead code (cond b (Read (halvesIn text)) Refused)) (sym read) ∙ ap (halvesRead code) e)

@@ -7,14 +7,15 @@ use mathlib.Core.Bool.{Bool, true, false, cond, not, _&&_}
 use mathlib.Core.List.{List, [], _∷_}
 use lib.Dec.{eqb}
 use Rattle.facts.specs.Lists.{Each}
-use Rattle.facts.specs.Texts.{bytes}
+use Rattle.facts.specs.Texts.{bytes, sameText}
 use Rattle.halves.specs.declared.Halves.{Halves}
 use Rattle.halves.specs.Halves.{halvesIn, sameCode, isCode}
 use Rattle.places.specs.Places.{places}
 use Rattle.entitlements.specs.declared.Account.{Account}
+use Rattle.entitlements.specs.declared.Answered.{Answered}
 use Rattle.entitlements.specs.declared.Kind.{Kind}
 use Rattle.entitlements.specs.declared.Kind.the-variants.{Activate, Cancel}
-use Rattle.entitlements.specs.Entitlements.{empty, codeAt, activeAt, isActive, countActive, Answering, Done, largest, message}
+use Rattle.entitlements.specs.Entitlements.{codeAt, activeAt, isActive, countActive, Answering, says, Done, does, largest, message}
 
 -- ---- messages sent one by one
 
@@ -38,10 +39,13 @@ pub record Sent : Type 0 where
   pub message : Message
   pub answer : Answering
 
+abbrev pub sentBy : Message → Answering → Sent
+sentBy m answer = record { message = m; answer = answer }
+
 -- Messages with their answers
 abbrev pub sent : Account → List Message → List Sent
 sent account [] = []
-sent account (m ∷ later) = record { message = m; answer = send account m .answer } ∷ sent (send account m .account) later
+sent account (m ∷ later) = sentBy m (send account m .answer) ∷ sent (send account m .account) later
 
 -- ---- what was processed
 
@@ -70,13 +74,6 @@ latestNumber before (s ∷ later) = latestNumber (cond (s .answer .uses) (s .mes
 
 -- ---- how often an answer came
 
--- Whether two texts are the same
-abbrev pub sameText : List ℕ → List ℕ → Bool
-sameText [] [] = true
-sameText [] (y ∷ ys) = false
-sameText (x ∷ xs) [] = false
-sameText (x ∷ xs) (y ∷ ys) = eqb x y && sameText xs ys
-
 -- 1 for an answer in these words, 0 for any other
 abbrev pub one : List ℕ → Answering → ℕ
 one words answer = cond (sameText (answer .words) words) 1 0
@@ -88,21 +85,41 @@ times words (s ∷ later) = one words (s .answer) + times words later
 
 -- ---- what is said
 
--- "Over any messages from empty": any texts and any numbers, with the refused among them
-pub record Kept (messages : List Message) : Type 0 where
+-- "Over any messages from empty": what holds of the account after messages, any texts and any numbers with the refused among them, and
+-- of these with their answers
+pub record Kept (account : Account) (all : List Sent) : Type 0 where
   -- "the active codes are exactly those whose latest processed activation or cancellation, with "full" ones passed over, was an activation"
-  pub active : (code : Halves) → isActive (after empty messages) code ≡ latest code false (sent empty messages)
+  pub active : (code : Halves) → isActive account code ≡ latest code false all
   -- "and their number is the "activated" answers less the "cancelled" ones": of which there are no more
-  pub number : countActive (after empty messages .active)
-      ≡ times (bytes "activated") (sent empty messages) - times (bytes "cancelled") (sent empty messages)
-  pub fewer : times (bytes "cancelled") (sent empty messages) ≤ times (bytes "activated") (sent empty messages)
+  pub number : countActive (account .active) ≡ times (bytes "activated") all - times (bytes "cancelled") all
+  pub fewer : times (bytes "cancelled") all ≤ times (bytes "activated") all
   -- No code is active at two places
-  pub single : (i j : ℕ) → i < places → j < places → activeAt (after empty messages) i ≡ true → activeAt (after empty messages) j ≡ true
-      → codeAt (after empty messages) i ≡ codeAt (after empty messages) j → i ≡ j
+  pub single : (i j : ℕ) → i < places → j < places → activeAt account i ≡ true → activeAt account j ≡ true
+      → codeAt account i ≡ codeAt account j → i ≡ j
   -- An active place has a code that reading accepts
-  pub read : (i : ℕ) → i < places → activeAt (after empty messages) i ≡ true → isCode (codeAt (after empty messages) i) ≡ true
+  pub read : (i : ℕ) → i < places → activeAt account i ≡ true → isCode (codeAt account i) ≡ true
   -- The last number is the latest used up, and not too large
-  pub last : after empty messages .last ≡ latestNumber 0 (sent empty messages)
-  pub within : after empty messages .last ≤ largest
+  pub last : account .last ≡ latestNumber 0 all
+  pub within : account .last ≤ largest
   -- 40 never comes
-  pub not-40 : Each (λ (s : Sent). s .answer .number ≢ 40) (sent empty messages)
+  pub not-40 : Each (λ (s : Sent). s .answer .number ≢ 40) all
+
+-- ---- through the functions
+
+-- What `message::activate` and `message::cancel` hand back, one by one: each keeps the promise for the account that the one before
+-- handed back
+pub data Handed : Account → List Message → List Answered → Type 0 where
+  nothing : {account : Account} → Handed account [] []
+  handed : {account : Account} {m : Message} {later : List Message} {r : Answered} {replies : List Answered} → does r ≡ send account m
+      → Handed (r .account) later replies → Handed account (m ∷ later) (r ∷ replies)
+
+-- The account that the last of them handed back
+abbrev pub lastAccount : Account → List Answered → Account
+lastAccount account [] = account
+lastAccount account (r ∷ replies) = lastAccount (r .account) replies
+
+-- The messages with what the functions answered
+abbrev pub told : List Message → List Answered → List Sent
+told [] replies = []
+told (m ∷ later) [] = []
+told (m ∷ later) (r ∷ replies) = sentBy m (says (r .answer)) ∷ told later replies

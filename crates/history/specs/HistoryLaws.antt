@@ -1,7 +1,8 @@
--- The theorem of the history: what each message changes, what messages from any sound account on leave, and from empty. Assumes nothing.
+-- The theorem of the history: what each message changes, what messages from any sound account on leave, and from empty; and the same
+-- of whatever the functions hand back. Assumes nothing.
 use Prim.Native.Nat.{ℕ, _+_}
 use native.Mathlib.Omega.{arith}
-use mathlib.Core.Path.{_≡_, refl, ap, sym, _∙_}
+use mathlib.Core.Path.{_≡_, refl, ap, ap₂, sym, _∙_}
 use mathlib.Core.Logic.{_≢_}
 use mathlib.Core.Bool.{Bool, true, false, cond, not, _&&_, _||_}
 use mathlib.Core.List.{List, [], _∷_, _++_}
@@ -11,6 +12,7 @@ use Rattle.facts.specs.Texts.{bytes}
 use Rattle.halves.specs.declared.Halves.{Halves}
 use Rattle.halves.specs.Halves.{halvesIn, sameCode}
 use Rattle.entitlements.specs.declared.Account.{Account}
+use Rattle.entitlements.specs.declared.Answered.{Answered}
 use Rattle.entitlements.specs.declared.Kind.{Kind}
 use Rattle.entitlements.specs.Entitlements.{empty, isActive, countActive, Done, message, processing}
 use Rattle.entitlements.specs.Active.{same-code}
@@ -36,6 +38,7 @@ use Rattle.history.specs.History.{
   send,
   after,
   Sent,
+  sentBy,
   sent,
   isActivation,
   counts,
@@ -45,6 +48,11 @@ use Rattle.history.specs.History.{
   one,
   times,
   Kept,
+  Handed,
+  nothing,
+  handed,
+  lastAccount,
+  told,
 }
 
 -- ---- what changes in each row
@@ -108,7 +116,7 @@ module _ {account : Account} (sound : Sound account) (m : Message) where
 
   -- A message with its answer
   abbrev pub answered : Sent
-  answered = record { message = m; answer = send account m .answer }
+  answered = sentBy m (send account m .answer)
 
   -- Its code is active where it counts and is an activation, and any other as it was
   pub send-active : (code : Halves) → isActive (send account m .account) code
@@ -198,12 +206,17 @@ pub sent-append : (messages more : List Message) (account : Account)
     → sent account (messages ++ more) ≡ sent account messages ++ sent (after account messages) more
 sent-append [] more account = refl
 sent-append (m ∷ later) more account =
-    ap (λ (s : List Sent). record { message = m; answer = send account m .answer } ∷ s) (sent-append later more (send account m .account))
+    ap (λ (s : List Sent). sentBy m (send account m .answer) ∷ s) (sent-append later more (send account m .account))
+
+-- How often an answer came is counted part by part
+pub times-append : (words : List ℕ) (all more : List Sent) → times words (all ++ more) ≡ times words all + times words more
+times-append words [] more = omega arith
+times-append words (s ∷ later) more = omega (arith, times-append words later more)
 
 -- ---- from empty
 
 -- What is said of any messages from empty
-pub kept : (messages : List Message) → Kept messages
+pub kept : (messages : List Message) → Kept (after empty messages) (sent empty messages)
 kept messages = record {
   active = λ code. after-active messages empty-sound code ∙ ap (λ (b : Bool). latest code b (sent empty messages)) (empty-active code);
   number = omega (arith, after-count messages empty-sound, empty-count);
@@ -214,3 +227,23 @@ kept messages = record {
   within = after-sound messages empty-sound .within;
   not-40 = after-not-40 messages empty-sound;
 }
+
+-- ---- through the functions
+
+-- What the functions hand back is the account after the messages
+handed-account : {account : Account} {messages : List Message} {replies : List Answered} → Handed account messages replies
+    → lastAccount account replies ≡ after account messages
+handed-account nothing = refl
+handed-account (handed {later = later} e more) = handed-account more ∙ ap (λ (d : Done). after (d .account) later) e
+
+-- and what they answer is what the messages were answered
+handed-told : {account : Account} {messages : List Message} {replies : List Answered} → Handed account messages replies
+    → told messages replies ≡ sent account messages
+handed-told nothing = refl
+handed-told (handed {m = m} {later = later} e more) =
+    ap₂ _∷_ (ap (λ (d : Done). sentBy m (d .answer)) e) (handed-told more ∙ ap (λ (d : Done). sent (d .account) later) e)
+
+-- So it is said of whatever they hand back, one by one from empty
+pub kept-handed : {messages : List Message} {replies : List Answered} → Handed empty messages replies
+    → Kept (lastAccount empty replies) (told messages replies)
+kept-handed {messages} h = rw (handed-account h, handed-told h) (kept messages)

@@ -14,13 +14,13 @@ use lib.Dec.{eqb}
 use borrow.Author.Tests.{lt-ltb, le-ltb, eq-eqb, ne-eqb, eqb-true}
 use Rattle.facts.specs.Numbers.{either-way}
 use Rattle.lines.specs.Lines.{cut, longer, withoutEmptyLast, linesOf, replyLine}
-use Rattle.lines.specs.Answers.{Answered, Answering, repliesFrom, stateFrom, outputFrom}
+use Rattle.lines.specs.Answers.{Served, Serving, repliesFrom, stateFrom, outputFrom}
 use Rattle.lines.specs.AnswersLaws.{ByFirst}
 use Rattle.lines.specs.Automaton.{Coming, first, grown, more, answer, reply, next, after, ended, last, final, together, listed}
 
 -- ---- one byte, a line feed or another; the end of the input, in a line that has not begun or in one that has
 
-module _ {S : Type 0} (says : Answering S) (line : Coming S) where
+module _ {S : Type 0} (says : Serving S) (line : Coming S) where
   pub byte-feed : (b : ℕ) → b ≡ 10 → (after says line (b ∷ []) ≡ next says line) × (ended says line (b ∷ []) ≡ reply says line)
   unfolding after ended
   byte-feed b e = rw (eq-eqb b 10 e) (refl, append-nil (reply says line))
@@ -149,7 +149,7 @@ lines-cut line (x ∷ text) = pick (eqb x 10) refl
 
 -- ---- the whole output
 
-module _ {S : Type 0} (says : Answering S) where
+module _ {S : Type 0} (says : Serving S) where
   -- the answer goes by what stands in the room
   answer-stands : (line : Coming S) (text : List ℕ) → ByFirst says (length (line .room)) → Stands line text
       → answer says line ≡ says (line .state) text
@@ -175,8 +175,8 @@ module _ {S : Type 0} (says : Answering S) where
       record {
         replied =
             rw (append-nil text)
-            (last-some says line some ∙ ap (λ (a : Answered S). replyLine (line .number) (a .reply)) here ∙ sym none);
-        left = rw (append-nil text) (final-some says line some ∙ ap (λ (a : Answered S). a .state) here);
+            (last-some says line some ∙ ap (λ (a : Served S). replyLine (line .number) (a .reply)) here ∙ sym none);
+        left = rw (append-nil text) (final-some says line some ∙ ap (λ (a : Served S). a .state) here);
       }
 
   -- where a line feed comes
@@ -193,13 +193,13 @@ module _ {S : Type 0} (says : Answering S) where
             ∙ ap (λ (t : List ℕ). reply says line ++ t) (later .replied)
             ∙ ap (λ (ps : List (List ℕ)). reply says line ++ repliesFrom says s n (withoutEmptyLast ps)) (joined-cut input)
             ∙ ap (λ (m : ℕ). reply says line ++ repliesFrom says s m rest) number
-            ∙ ap (λ (a : Answered S). replyLine (line .number) (a .reply) ++ repliesFrom says (a .state) (line .number + 1) rest) here
+            ∙ ap (λ (a : Served S). replyLine (line .number) (a .reply) ++ repliesFrom says (a .state) (line .number + 1) rest) here
             ∙ ap (λ (t : List ℕ). repliesFrom says (line .state) (line .number) (t ∷ rest)) (sym (append-nil text))
             ∙ ap (repliesFrom says (line .state) (line .number)) (sym (lines-cut (text ++ []) input));
         left =
             later .left
             ∙ ap (λ (ps : List (List ℕ)). stateFrom says s (withoutEmptyLast ps)) (joined-cut input)
-            ∙ ap (λ (a : Answered S). stateFrom says (a .state) rest) here
+            ∙ ap (λ (a : Served S). stateFrom says (a .state) rest) here
             ∙ ap (λ (t : List ℕ). stateFrom says (line .state) (t ∷ rest)) (sym (append-nil text))
             ∙ ap (stateFrom says (line .state)) (sym (lines-cut (text ++ []) input));
       }

@@ -5,7 +5,7 @@ use mathlib.Core.List.{List}
 use lib.ListN.{length}
 use borrow.Author.Tests.{lt-ltb, le-ltb}
 use Rattle.lines.specs.Lines.{Reply, refused, longest, Coding, form, formSaid, lineSaid}
-use Rattle.lines.specs.Answers.{Answered, always}
+use Rattle.lines.specs.Answers.{Served, always}
 use Rattle.lines.specs.AnswersLaws.{ByFirst, long-first}
 
 module _ (coding : Coding) where
@@ -22,5 +22,5 @@ module _ (coding : Coding) where
   said-first size h =
       long-first (always (lineSaid coding)) longest size (λ s. answered (refused 10 0)) (λ s line k. ap answered (said-long line k)) h
     where
-      answered : Reply → Answered (Unit {0})
+      answered : Reply → Served (Unit {0})
       answered said = record { reply = said; state = tt }

@@ -8,7 +8,7 @@ use lib.ListN.{length, take, length-append}
 use lib.Dec.{ltb, eqb}
 use Rattle.facts.specs.Texts.{bytes}
 use Rattle.lines.specs.Lines.{Form, unit, notOfThisForm, form, formSaid, Coding, Reply, refused, saying, spelling, decimal, longest, lineSaid, replyLine}
-use Rattle.lines.specs.Answers.{Answering}
+use Rattle.lines.specs.Answers.{Serving}
 use Rattle.lines.specs.Automaton.{Coming, more, answer, reply, next, ended, last}
 
 -- a number of so many digits at most
@@ -56,7 +56,7 @@ line-short coding short line = pick (ltb longest (length line)) (form line)
     pick false notOfThisForm = refusal-short 9 0
 
 -- the replies to lines of which short things are said in every state
-module _ {S : Type 0} (says : Answering S) (short : (s : S) (line : List ℕ) → Short (says s line .reply)) where
+module _ {S : Type 0} (says : Serving S) (short : (s : S) (line : List ℕ) → Short (says s line .reply)) where
   reply-short : (line : Coming S) → length (reply says line) ≤ replyMost
   unfolding replyLine
   reply-short line =

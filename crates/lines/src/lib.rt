@@ -1,5 +1,5 @@
-// The listing's lines: what document 01 says of them is specs/Lines.antt, and how they come in is
-// specs/Automaton.antt. Here a line grows byte by byte in room that the caller lends.
+// Lines: what document 01 says of the listing's is specs/Lines.antt, lines of messages are in
+// specs/Messages.antt, and how either come in is specs/Automaton.antt. Here a line grows byte by byte in room that the caller lends.
 //
 // No function reads or writes anything but what it is lent, no public one has a `requires`, and each
 // contract is an equation to a definition of specs/.
@@ -13,6 +13,9 @@ pub const LONGEST: usize = 24576;
 
 // The room for a line: one byte more than a line may have, so that a longer one shows.
 pub const ROOM: usize = LONGEST + 1;
+
+// No reply to a line has more bytes: the line's number, `refused`, number and place.
+pub const REPLY: usize = 71;
 
 // How many bytes of a line stand in a room after one byte more, which is not a line feed. The byte
 // goes into the room while the room lasts; the rest of a long line is passed over.

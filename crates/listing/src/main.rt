@@ -22,7 +22,7 @@ use register::Listed;
 const READ: usize = 32768;
 
 // Room for a reply to each byte of a read, which may all be line feeds.
-const WRITTEN: usize = READ * register::REPLY;
+const WRITTEN: usize = READ * lines::REPLY;
 
 fn main() {
     let mut input = [0u8; READ];

@@ -1,2 +1,2 @@
--- The arrays of an account, lent, and the loop that looks for a place that 40 refuses.
-pub mod Lent
+-- 40 by the last number or by a place, and the loop that looks for such a place.
+pub mod NoAccount

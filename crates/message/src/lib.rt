@@ -6,7 +6,7 @@ ghost use Rattle.places.specs.Places.{places};
 ghost use Rattle.entitlements.specs.declared.Kind.the-variants.{Activate, Cancel};
 ghost use Rattle.entitlements.specs.Entitlements.{noAccount, does, message};
 ghost use Rattle.change.specs.Change.{stepped as Change·stepped};
-ghost use Rattle.message.specs.Lent.{lent, badAt, badPlace};
+ghost use Rattle.message.specs.NoAccount.{unnumbered, badAt, badPlace};
 use change::Step;
 use entitlements::Account;
 use entitlements::Answer;
@@ -24,7 +24,7 @@ fn is_bad<'a>(
     i: usize,
 ) -> bool
     requires { ⌜ i < places ⌝ }
-    ensures { λ r. ⌜ r ≡ badAt (lent (now (high .entry)) (now (low .entry)) (now (active .entry))) i ⌝ }
+    ensures { λ r. ⌜ r ≡ badAt (unnumbered (now (high .entry)) (now (low .entry)) (now (active .entry))) i ⌝ }
 {
     if active[i] == 0 {
         return false;
@@ -41,7 +41,7 @@ fn is_bad<'a>(
 
 // Whether there is such a place.
 fn bad_place<'a>(high: &'a [u64; PLACES], low: &'a [u64; PLACES], active: &'a [u64; PLACES]) -> bool
-    ensures { λ r. ⌜ r ≡ badPlace (lent (now (high .entry)) (now (low .entry)) (now (active .entry))) ⌝ }
+    ensures { λ r. ⌜ r ≡ badPlace (unnumbered (now (high .entry)) (now (low .entry)) (now (active .entry))) ⌝ }
 {
     let mut i = 0;
     while i < PLACES {

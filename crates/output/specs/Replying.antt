@@ -10,7 +10,7 @@ use Rattle.room.specs.Room.{Put}
 use Rattle.room.specs.RoomLaws.{put-nothing, put-then, put-four}
 use Rattle.facts.specs.Texts.{bytes}
 use Rattle.lines.specs.Lines.{Reply, decimal, saying, replyLine}
-use Rattle.lines.specs.Answers.{Answering}
+use Rattle.lines.specs.Answers.{Serving}
 use Rattle.lines.specs.Automaton.{Coming, after, ended}
 use Rattle.lines.specs.AutomatonLaws.{after-append, ended-append}
 
@@ -21,16 +21,16 @@ unfolding replyLine
 put-reply number said = put-four
 
 -- the bytes before the position i are taken, and the replies in them put
-pub record Replying {S : Type 0} (says : Answering S) (start : Coming S) (bytes lent : List ℕ) (line : Coming S) (out : List ℕ) (put i : ℕ) : Type 0 where
+pub record Replying {S : Type 0} (says : Serving S) (start : Coming S) (bytes lent : List ℕ) (line : Coming S) (out : List ℕ) (put i : ℕ) : Type 0 where
   pub done : List ℕ
   pub comes : after says start bytes ≡ after says line (drop i bytes)
   pub whole : ended says start bytes ≡ done ++ ended says line (drop i bytes)
   pub filled : Put lent 0 done put out
 
-pub replying-begin : {S : Type 0} (says : Answering S) (start : Coming S) (bytes lent : List ℕ) → Replying says start bytes lent start lent 0 0
+pub replying-begin : {S : Type 0} (says : Serving S) (start : Coming S) (bytes lent : List ℕ) → Replying says start bytes lent start lent 0 0
 replying-begin says start bytes lent = record { done = []; comes = refl; whole = refl; filled = put-nothing lent 0 }
 
-module _ {S : Type 0} {says : Answering S} {start : Coming S} {bytes lent : List ℕ} {line : Coming S} {out : List ℕ} {put i : ℕ}
+module _ {S : Type 0} {says : Serving S} {start : Coming S} {bytes lent : List ℕ} {line : Coming S} {out : List ℕ} {put i : ℕ}
     (so : Replying says start bytes lent line out put i) where
   -- a byte further
   pub replying-step : {further : Coming S} {end : ℕ} {later : List ℕ} → i < length bytes → further ≡ after says line (getD bytes i 0 ∷ [])

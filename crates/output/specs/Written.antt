@@ -6,7 +6,7 @@ use mathlib.Core.List.{List}
 use lib.ListN.{length, take}
 use Rattle.room.specs.Room.{Put}
 use Rattle.room.specs.RoomLaws.{put-within, put-whole}
-use Rattle.lines.specs.Answers.{Answering}
+use Rattle.lines.specs.Answers.{Serving}
 use Rattle.lines.specs.Automaton.{Coming, ended, last}
 use Rattle.lines.specs.ReplyLaws.{replyMost, Short, ended-short, last-short}
 
@@ -20,7 +20,7 @@ starts-put : {lent text : List ℕ} {put : ℕ} {out : List ℕ} → Put lent 0 
 starts-put p h = record { within = put-within p (omega arith); first = put-whole p h .1 }
 
 -- where short things are said in every state: none of a read's replies is lost, and likewise at the end of the input
-module _ {S : Type 0} (says : Answering S) (short : (s : S) (line : List ℕ) → Short (says s line .reply)) (line : Coming S) where
+module _ {S : Type 0} (says : Serving S) (short : (s : S) (line : List ℕ) → Short (says s line .reply)) (line : Coming S) where
   pub ended-written : (bytes : List ℕ) {lent : List ℕ} {put : ℕ} {out : List ℕ} → length bytes * replyMost ≤ length lent
       → Put lent 0 (ended says line bytes) put out → Starts out put (ended says line bytes)
   ended-written bytes h p = starts-put p (omega (arith, h, ended-short says short line bytes))

@@ -5,7 +5,7 @@ use mathlib.Core.List.{List}
 use lib.Dec.{eqb}
 use lib.ListN.{getD}
 use Rattle.halves.specs.declared.Halves.{Halves}
-use Rattle.halves.specs.Halves.{sameCode}
+use Rattle.halves.specs.Halves.{halvesBy, sameCode}
 
 -- "256 free places": how many places there are
 abbrev pub places : ℕ
@@ -17,7 +17,7 @@ isFree active i = eqb (getD active i 0) 0
 
 -- What a place holds: a code by its halves
 abbrev pub codeOn : List ℕ → List ℕ → ℕ → Halves
-codeOn high low i = record { high = getD high i 0; low = getD low i 0 }
+codeOn high low i = halvesBy (getD high i 0) (getD low i 0)
 
 -- Whether a place has this low half
 abbrev pub hasLow : List ℕ → ℕ → ℕ → Bool

@@ -15,9 +15,6 @@ ghost use Rattle.lines.specs.Answers.{always};
 ghost use Rattle.lines.specs.Automaton.{after, ended, last};
 ghost use Rattle.register.specs.Said.{said, coming};
 
-// No reply has more bytes: the line's number, `refused`, number and place.
-pub const REPLY: usize = 71;
-
 // The line that comes in: its number, and how many of its bytes stand in the room.
 pub struct Line {
     pub number: u64,

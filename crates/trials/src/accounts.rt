@@ -201,7 +201,7 @@ fn is_listed(active: u64, high: u64, low: u64) -> bool {
     low != 0
 }
 
-// A count of places that are listed, with one more.
+// A count of places that are listed, with one more where it is.
 fn counted(count: u64, active: u64, high: u64, low: u64) -> u64 {
     if is_listed(active, high, low) {
         return std::num::wrapping_add_u64(count, 1);

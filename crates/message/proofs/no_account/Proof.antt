@@ -1,7 +1,7 @@
 -- `message::no_account` meets its contract: 40 is by the last number, or by a place. Assumes nothing.
 use mathlib.Core.Path.{sym, _∙_}
 use borrow.Author.Needs.{needs}
-use Rattle.message.specs.Lent.{last-large, last-within}
+use Rattle.message.specs.NoAccount.{last-large, last-within}
 use Rattle.message.proofs.no_account.Statement.{statement}
 use Rattle.message.proofs.no_account.Tie as tie
 

@@ -1,0 +1,158 @@
+-- The messages that the lines of an input state, and what the theorem of the history says of these: of the account at the end of every
+-- input, however reads cut it, and of the replies that were written. Assumes nothing.
+use Prim.Native.Nat.{ℕ, _+_, _-_, _^_, _<_}
+use Prim.Native.Char.{code}
+use native.Mathlib.Omega.{arith}
+use mathlib.Core.Path.{_≡_, refl, ap, ap₂, sym, _∙_}
+use mathlib.Core.Bool.{Bool, true, false, cond}
+use mathlib.Core.List.{List, [], _∷_, _++_}
+use lib.Dec.{eqb, ltb}
+use lib.ListN.{length}
+use Rattle.facts.specs.Texts.{bytes, sameText}
+use Rattle.entitlements.specs.declared.Account.{Account}
+use Rattle.entitlements.specs.declared.Kind.{Kind}
+use Rattle.entitlements.specs.Entitlements.{empty, countActive, Done, processing, noAccount, message}
+use Rattle.entitlements.specs.Sound.{message-refused, message-accepted}
+use Rattle.entitlements.specs.Outcomes.{
+  Outcome,
+  no-number,
+  no-code,
+  too-old,
+  activates-again,
+  finds-full,
+  activates,
+  finds-inactive,
+  cancels,
+  outcome,
+}
+use Rattle.history.specs.History.{Message, after, sent, one, times, Kept}
+use Rattle.history.specs.HistoryLaws.{after-append, sent-append, times-append, kept}
+use Rattle.lines.specs.Lines.{Reply, refused, saying, longest, linesOf}
+use Rattle.lines.specs.Messages.{Message as Form, message as stating, notOfThisForm, messageOf}
+use Rattle.lines.specs.Answers.{saidFrom, stateFrom}
+use Rattle.lines.specs.Automaton.{first, final, together, after as read}
+use Rattle.entry.specs.Stated.{kindOf}
+use Rattle.book.specs.Said.{replyOf, answered, formPosted, posting}
+use Rattle.book.specs.Whole.{whole-account}
+
+-- ---- the messages of an input
+
+-- the message of a form, if it has one
+abbrev pub messageIn : Form → List Message
+messageIn (stating letter number text) = record { kind = kindOf letter; text = text; number = number } ∷ []
+messageIn notOfThisForm = []
+
+-- the message of a line, if it states one: 9 and 10 are for lines that state none
+abbrev pub messageOn : List ℕ → List Message
+messageOn line = cond (ltb longest (length line)) [] (messageIn (messageOf line))
+
+-- the messages that lines state
+abbrev pub messagesOf : List (List ℕ) → List Message
+messagesOf [] = []
+messagesOf (line ∷ lines) = messageOn line ++ messagesOf lines
+
+-- ---- the account after them
+
+-- a line leaves the account after its message
+line-after : (account : Account) (line : List ℕ) → posting message account line .state ≡ after account (messageOn line)
+unfolding posting
+line-after account line = pick (ltb longest (length line)) (messageOf line)
+  where
+    pick : (b : Bool) (f : Form)
+        → cond b (answered (refused 10 0) account) (formPosted message account f) .state ≡ after account (cond b [] (messageIn f))
+    pick true f = refl
+    pick false (stating letter number text) = refl
+    pick false notOfThisForm = refl
+
+-- and lines the account after theirs
+pub lines-after : (lines : List (List ℕ)) (account : Account) → stateFrom (posting message) account lines ≡ after account (messagesOf lines)
+unfolding stateFrom
+lines-after [] account = refl
+lines-after (line ∷ lines) account =
+    lines-after lines (posting message account line .state)
+    ∙ ap (λ (a : Account). after a (messagesOf lines)) (line-after account line)
+    ∙ sym (after-append (messageOn line) (messagesOf lines) account)
+
+-- So the theorem of the history is of the account at the end of every input
+pub whole-kept : (room : List ℕ) (reads : List (List ℕ)) → longest < length room → 1 + length (together reads) < 2 ^ 64
+    → Kept (final (posting processing) (read (posting processing) (first room empty) (together reads)))
+    (sent empty (messagesOf (linesOf (together reads))))
+whole-kept room reads h few =
+    rw (whole-account room reads h few, lines-after (linesOf (together reads)) empty) (kept (messagesOf (linesOf (together reads))))
+
+-- ---- the replies to them
+
+-- 1 for a reply in these words, 0 for any other
+abbrev pub inWords : List ℕ → Reply → ℕ
+inWords words said = cond (sameText (saying said) words) 1 0
+
+-- how many replies are in these words
+abbrev pub repliesIn : List ℕ → List Reply → ℕ
+repliesIn words [] = 0
+repliesIn words (said ∷ later) = inWords words said + repliesIn words later
+
+-- words that do not start as a refusal does
+module _ (w : ℕ) (rest : List ℕ) (other : eqb (code "r") w ≡ false) where
+  abbrev words : List ℕ
+  words = w ∷ rest
+
+  refusal-other : (number place : ℕ) → inWords words (refused number place) ≡ 0
+  refusal-other number place = rw other
+
+  -- a message's reply is in them where its answer is
+  outcome-words : {account : Account} {text : List ℕ} {number : ℕ} {kind : Kind} {d : Done} → Outcome account text number kind d
+      → inWords words (replyOf (d .answer)) ≡ one words (d .answer)
+  outcome-words no-number = refusal-other 41 0
+  outcome-words no-code = refusal-other 42 0
+  outcome-words too-old = refl
+  outcome-words (activates-again p e) = refl
+  outcome-words (finds-full p e f) = refusal-other 43 0
+  outcome-words (activates p e f) = refl
+  outcome-words (finds-inactive p e) = refl
+  outcome-words (cancels p e) = refl
+
+  message-words : (kind : Kind) (account : Account) (text : List ℕ) (number : ℕ)
+      → inWords words (replyOf (message kind account text number .answer)) ≡ one words (message kind account text number .answer)
+  message-words kind account text number = at (noAccount account) refl
+    where
+      at : (b : Bool) → noAccount account ≡ b
+          → inWords words (replyOf (message kind account text number .answer)) ≡ one words (message kind account text number .answer)
+      at true e = rw (message-refused kind account text number e) (refusal-other 40 0)
+      at false e = rw (message-accepted kind account text number e) (outcome-words (outcome account text number kind))
+
+  -- and a line's where it states a message
+  line-words : (account : Account) (line : List ℕ)
+      → inWords words (posting message account line .reply) ≡ times words (sent account (messageOn line))
+  unfolding posting
+  line-words account line = pick (ltb longest (length line)) (messageOf line)
+    where
+      pick : (b : Bool) (f : Form)
+          → inWords words (cond b (answered (refused 10 0) account) (formPosted message account f) .reply)
+          ≡ times words (sent account (cond b [] (messageIn f)))
+      pick true f = refusal-other 10 0
+      pick false (stating letter number text) = omega (arith, message-words (kindOf letter) account text number)
+      pick false notOfThisForm = refusal-other 9 0
+
+  -- as many replies are in these words as there are answers
+  lines-words : (lines : List (List ℕ)) (account : Account)
+      → repliesIn words (saidFrom (posting message) account lines) ≡ times words (sent account (messagesOf lines))
+  unfolding saidFrom
+  lines-words [] account = refl
+  lines-words (line ∷ lines) account =
+      let next : Account = posting message account line .state in
+      let later = lines-words lines next ∙ ap (λ (a : Account). times words (sent a (messagesOf lines))) (line-after account line) in
+      let parts = times-append words (sent account (messageOn line)) (sent (after account (messageOn line)) (messagesOf lines)) in
+      ap₂ _+_ (line-words account line) later
+      ∙ sym parts
+      ∙ ap (times words) (sym (sent-append (messageOn line) (messagesOf lines) account))
+
+-- So the number of active codes at the end of every input is that of the replies `activated` less that of the replies `cancelled`
+pub whole-number : (room : List ℕ) (reads : List (List ℕ)) → longest < length room → 1 + length (together reads) < 2 ^ 64
+    → countActive (final (posting processing) (read (posting processing) (first room empty) (together reads)) .active)
+    ≡ repliesIn (bytes "activated") (saidFrom (posting message) empty (linesOf (together reads)))
+    - repliesIn (bytes "cancelled") (saidFrom (posting message) empty (linesOf (together reads)))
+whole-number room reads h few =
+    whole-kept room reads h few .number
+    ∙ ap₂ _-_
+    (sym (lines-words (code "a") (bytes "ctivated") refl (linesOf (together reads)) empty))
+    (sym (lines-words (code "c") (bytes "ancelled") refl (linesOf (together reads)) empty))
