@@ -39,6 +39,7 @@ pub record Sent : Type 0 where
   pub message : Message
   pub answer : Answering
 
+-- by the two
 abbrev pub sentBy : Message → Answering → Sent
 sentBy m answer = record { message = m; answer = answer }
 
