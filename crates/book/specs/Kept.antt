@@ -10,21 +10,8 @@ use lib.Dec.{eqb, ltb}
 use lib.ListN.{length}
 use Rattle.facts.specs.Texts.{bytes, sameText}
 use Rattle.entitlements.specs.declared.Account.{Account}
-use Rattle.entitlements.specs.declared.Kind.{Kind}
-use Rattle.entitlements.specs.Entitlements.{empty, countActive, Done, processing, noAccount, message}
-use Rattle.entitlements.specs.Sound.{message-refused, message-accepted}
-use Rattle.entitlements.specs.Outcomes.{
-  Outcome,
-  no-number,
-  no-code,
-  too-old,
-  activates-again,
-  finds-full,
-  activates,
-  finds-inactive,
-  cancels,
-  outcome,
-}
+use Rattle.entitlements.specs.Entitlements.{empty, countActive, Answering, processing, message}
+use Rattle.entitlements.specs.Outcomes.{Spoken, in-words, by-number, message-spoken}
 use Rattle.history.specs.History.{Message, after, sent, one, times, Kept}
 use Rattle.history.specs.HistoryLaws.{after-append, sent-append, times-append, kept}
 use Rattle.lines.specs.Lines.{Reply, refused, saying, longest, linesOf}
@@ -99,28 +86,12 @@ module _ (w : ℕ) (rest : List ℕ) (other : eqb (code "r") w ≡ false) where
   refusal-other : (number place : ℕ) → inWords words (refused number place) ≡ 0
   refusal-other number place = rw other
 
-  -- a message's reply is in them where its answer is
-  outcome-words : {account : Account} {text : List ℕ} {number : ℕ} {kind : Kind} {d : Done} → Outcome account text number kind d
-      → inWords words (replyOf (d .answer)) ≡ one words (d .answer)
-  outcome-words no-number = refusal-other 41 0
-  outcome-words no-code = refusal-other 42 0
-  outcome-words too-old = refl
-  outcome-words (activates-again p e) = refl
-  outcome-words (finds-full p e f) = refusal-other 43 0
-  outcome-words (activates p e f) = refl
-  outcome-words (finds-inactive p e) = refl
-  outcome-words (cancels p e) = refl
+  -- a reply is in them where the answer is
+  spoken-words : {answer : Answering} → Spoken answer → inWords words (replyOf answer) ≡ one words answer
+  spoken-words (in-words said uses h) = refl
+  spoken-words (by-number number uses e) = rw e (refusal-other number 0)
 
-  message-words : (kind : Kind) (account : Account) (text : List ℕ) (number : ℕ)
-      → inWords words (replyOf (message kind account text number .answer)) ≡ one words (message kind account text number .answer)
-  message-words kind account text number = at (noAccount account) refl
-    where
-      at : (b : Bool) → noAccount account ≡ b
-          → inWords words (replyOf (message kind account text number .answer)) ≡ one words (message kind account text number .answer)
-      at true e = rw (message-refused kind account text number e) (refusal-other 40 0)
-      at false e = rw (message-accepted kind account text number e) (outcome-words (outcome account text number kind))
-
-  -- and a line's where it states a message
+  -- a line's where it states a message
   line-words : (account : Account) (line : List ℕ)
       → inWords words (posting message account line .reply) ≡ times words (sent account (messageOn line))
   unfolding posting
@@ -130,7 +101,7 @@ module _ (w : ℕ) (rest : List ℕ) (other : eqb (code "r") w ≡ false) where
           → inWords words (cond b (answered (refused 10 0) account) (formPosted message account f) .reply)
           ≡ times words (sent account (cond b [] (messageIn f)))
       pick true f = refusal-other 10 0
-      pick false (stating letter number text) = omega (arith, message-words (kindOf letter) account text number)
+      pick false (stating letter number text) = omega (arith, spoken-words (message-spoken (kindOf letter) account text number))
       pick false notOfThisForm = refusal-other 9 0
 
   -- as many replies are in these words as there are answers

@@ -8,22 +8,9 @@ use mathlib.Core.List.{List}
 use lib.Dec.{ltb}
 use lib.ListN.{length}
 use Rattle.entitlements.specs.declared.Account.{Account}
-use Rattle.entitlements.specs.declared.Kind.{Kind}
-use Rattle.entitlements.specs.Entitlements.{empty, Done, processing, message}
+use Rattle.entitlements.specs.Entitlements.{empty, Answering, processing, message}
 use Rattle.entitlements.specs.Sound.{Sound, empty-sound, message-processing}
-use Rattle.entitlements.specs.Outcomes.{
-  Outcome,
-  no-number,
-  no-code,
-  too-old,
-  activates-again,
-  finds-full,
-  activates,
-  finds-inactive,
-  cancels,
-  outcome,
-  processing-sound,
-}
+use Rattle.entitlements.specs.Outcomes.{Spoken, in-words, by-number, processing-sound, processing-spoken}
 use Rattle.lines.specs.Lines.{refused, longest, linesOf}
 use Rattle.lines.specs.Messages.{Message, message as stating, notOfThisForm, messageOf}
 use Rattle.lines.specs.Answers.{stateFrom, outputFrom}
@@ -80,16 +67,9 @@ module _ (room : List ℕ) (reads : List (List ℕ)) (h : longest < length room)
 -- ---- how long replies are
 
 -- an answer has ten letters at most, or is a refusal
-outcome-short : {account : Account} {text : List ℕ} {number : ℕ} {kind : Kind} {d : Done} → Outcome account text number kind d
-    → Short (replyOf (d .answer))
-outcome-short no-number = refusal-short 41 0
-outcome-short no-code = refusal-short 42 0
-outcome-short too-old = omega arith
-outcome-short (activates-again p e) = omega arith
-outcome-short (finds-full p e f) = refusal-short 43 0
-outcome-short (activates p e f) = omega arith
-outcome-short (finds-inactive p e) = omega arith
-outcome-short (cancels p e) = omega arith
+spoken-short : {answer : Answering} → Spoken answer → Short (replyOf answer)
+spoken-short (in-words words uses h) = omega (arith, h)
+spoken-short (by-number number uses e) = rw e (refusal-short number 0)
 
 pub said-short : (account : Account) (line : List ℕ) → Short (posting processing account line .reply)
 unfolding posting
@@ -97,5 +77,5 @@ said-short account line = pick (ltb longest (length line)) (messageOf line)
   where
     pick : (b : Bool) (f : Message) → Short (cond b (answered (refused 10 0) account) (formPosted processing account f) .reply)
     pick true f = refusal-short 10 0
-    pick false (stating letter number text) = outcome-short (outcome account text number (kindOf letter))
+    pick false (stating letter number text) = spoken-short (processing-spoken (kindOf letter) account text number)
     pick false notOfThisForm = refusal-short 9 0

@@ -1,10 +1,12 @@
--- What can come of a message that is processed, row by row, and what holds of each: the account stays sound, which codes are active, how
--- many, and the last number. Assumes nothing.
+-- What can come of a message that is processed, row by row, and what holds of each: the account stays sound, how it is answered, and
+-- the last number. Assumes nothing.
 use Prim.Native.Nat.{ℕ, _≤_, _<_}
+use native.Mathlib.Omega.{arith}
 use mathlib.Core.Path.{_≡_, refl, ap, sym, _∙_}
 use mathlib.Core.Bool.{Bool, true, false, cond, not, _||_, true≢false}
-use mathlib.Core.List.{List}
+use mathlib.Core.List.{List, []}
 use lib.Dec.{eqb, ltb, leb}
+use lib.ListN.{length}
 use borrow.Author.Tests.{ltb-false, leb-false}
 use Rattle.facts.specs.Tests.{neither}
 use Rattle.halves.specs.Halves.{halvesIn, readable}
@@ -145,6 +147,22 @@ outcome-not-40 (activates p e f) = refl
 outcome-not-40 (finds-inactive p e) = refl
 outcome-not-40 (cancels p e) = refl
 
+-- How an answer is told: in words of ten letters at most, or by the number of a refusal
+pub data Spoken : Answering → Type 0 where
+  in-words : (words : List ℕ) (uses : Bool) → length words ≤ 10 → Spoken (record { number = 0; words = words; uses = uses })
+  by-number : (number : ℕ) (uses : Bool) → eqb number 0 ≡ false → Spoken (record { number = number; words = []; uses = uses })
+
+outcome-spoken : {account : Account} {text : List ℕ} {number : ℕ} {kind : Kind} {d : Done} → Outcome account text number kind d
+    → Spoken (d .answer)
+outcome-spoken no-number = by-number 41 false refl
+outcome-spoken no-code = by-number 42 false refl
+outcome-spoken too-old = in-words (old .words) false (omega arith)
+outcome-spoken (activates-again p e) = in-words (already .words) true (omega arith)
+outcome-spoken (finds-full p e f) = by-number 43 true refl
+outcome-spoken (activates p e f) = in-words (activated .words) true (omega arith)
+outcome-spoken (finds-inactive p e) = in-words (notActive .words) true (omega arith)
+outcome-spoken (cancels p e) = in-words (cancelled .words) true (omega arith)
+
 -- What becomes of the message number: where it is used up, the message passed and it is the last one; where not, nothing has changed
 pub record Numbered (account : Account) (text : List ℕ) (number : ℕ) (d : Done) : Type 0 where
   pub last : d .account .last ≡ cond (d .answer .uses) number (account .last)
@@ -190,6 +208,10 @@ module _ (kind : Kind) (account : Account) (text : List ℕ) (number : ℕ) wher
   pub processing-not-40 : eqb (processing kind account text number .answer .number) 40 ≡ false
   processing-not-40 = outcome-not-40 (outcome account text number kind)
 
+  -- how it answers
+  pub processing-spoken : Spoken (processing kind account text number .answer)
+  processing-spoken = outcome-spoken (outcome account text number kind)
+
   -- what it does with the number
   pub processing-numbered : Numbered account text number (processing kind account text number)
   processing-numbered = outcome-numbered (outcome account text number kind)
@@ -209,7 +231,15 @@ module _ (kind : Kind) (account : Account) (text : List ℕ) (number : ℕ) wher
       at true e = rw (message-refused kind account text number e) sized
       at false e = rw (message-accepted kind account text number e) (outcome-sized sized (outcome account text number kind))
 
-  -- What a message does with the number, likewise
+  -- How a message is answered, likewise
+  pub message-spoken : Spoken (message kind account text number .answer)
+  message-spoken = at (noAccount account) refl
+    where
+      at : (b : Bool) → noAccount account ≡ b → Spoken (message kind account text number .answer)
+      at true e = rw (message-refused kind account text number e) (by-number 40 false refl)
+      at false e = rw (message-accepted kind account text number e) processing-spoken
+
+  -- and what it does with the number
   pub message-numbered : Numbered account text number (message kind account text number)
   message-numbered = at (noAccount account) refl
     where
