@@ -3,11 +3,10 @@
 ghost use mathlib.Core.Path.{_≡_};
 ghost use lib.ListN.{length};
 ghost use Rattle.places.specs.Places.{places};
-ghost use Rattle.entitlements.specs.Entitlements.{accountOf, says, does, message};
+ghost use Rattle.entitlements.specs.Entitlements.{accountOf, says};
 ghost use Rattle.lending.specs.Lending.{answering, lends, lending};
 use entitlements::Account;
 use entitlements::Answer;
-use entitlements::Answered;
 use entitlements::Kind;
 use places::PLACES;
 
@@ -81,16 +80,6 @@ fn hand_back(lent: &mut [u64], array: [u64; PLACES])
     }
 }
 
-// A message of either kind, to an account by value.
-fn send(kind: Kind, account: Account, text: &[u8], number: u64) -> Answered
-    ensures { λ r. ⌜ does r ≡ message kind account (now (text .entry)) number ⌝ }
-{
-    match kind {
-        Kind::Activate => message::activate(account, text, number),
-        Kind::Cancel => message::cancel(account, text, number),
-    }
-}
-
 // Sends a message to a lent account, of any lengths.
 pub fn send_lent(
     kind: Kind,
@@ -112,7 +101,7 @@ pub fn send_lent(
     if active.len() != PLACES {
         return Lent { answer: 40, last };
     }
-    let answered = send(kind, taken_in(high, low, active, last), text, number);
+    let answered = message::send(kind, taken_in(high, low, active, last), text, number);
     let said = answered.answer;
     let answer = answer_code(said);
     let next = answered.account;

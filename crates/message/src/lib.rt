@@ -79,8 +79,8 @@ fn stepped(account: Account, step: Step) -> Account
     }
 }
 
-// Answers a message of either kind.
-fn answer(kind: Kind, account: Account, text: &[u8], number: u64) -> Answered
+// Sends a message of either kind, of any text and any number, to any account.
+pub fn send(kind: Kind, account: Account, text: &[u8], number: u64) -> Answered
     ensures { λ r. ⌜ does r ≡ message kind account (now (text .entry)) number ⌝ }
 {
     if no_account(account) {
@@ -106,16 +106,16 @@ fn answer(kind: Kind, account: Account, text: &[u8], number: u64) -> Answered
     }
 }
 
-// Activates a code, of any text, by a message of any number, in any account.
+// Activates a code.
 pub fn activate(account: Account, text: &[u8], number: u64) -> Answered
     ensures { λ r. ⌜ does r ≡ message Activate account (now (text .entry)) number ⌝ }
 {
-    answer(Kind::Activate, account, text, number)
+    send(Kind::Activate, account, text, number)
 }
 
-// Cancels a code, likewise.
+// Cancels a code.
 pub fn cancel(account: Account, text: &[u8], number: u64) -> Answered
     ensures { λ r. ⌜ does r ≡ message Cancel account (now (text .entry)) number ⌝ }
 {
-    answer(Kind::Cancel, account, text, number)
+    send(Kind::Cancel, account, text, number)
 }

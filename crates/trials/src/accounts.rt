@@ -85,7 +85,7 @@ fn answer_asked(asked: Asked, text: &[u8], from: usize, out: &mut [u8], at: usiz
         last: asked.last,
     };
     let kind = asked.kind;
-    let answered = send(kind, account, &text[end + 1..], asked.number);
+    let answered = message::send(kind, account, &text[end + 1..], asked.number);
     put_answered(answered, out, at)
 }
 
@@ -152,13 +152,6 @@ fn fill_number(text: &[u8], at: usize, array: &mut [u64], i: usize) -> usize {
         array[i] = number;
     }
     end
-}
-
-fn send(kind: Kind, account: Account, text: &[u8], number: u64) -> Answered {
-    match kind {
-        Kind::Activate => message::activate(account, text, number),
-        Kind::Cancel => message::cancel(account, text, number),
-    }
 }
 
 // Puts the answer, and the account afterwards as a request states it.

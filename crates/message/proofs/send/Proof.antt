@@ -1,4 +1,4 @@
--- `message::answer` meets its contract: 40, or the change that the message makes. Assumes nothing.
+-- `message::send` meets its contract: 40, or the change that the message makes. Assumes nothing.
 use mathlib.Core.Path.{ap, sym, _∙_}
 use borrow.Author.Needs.{needs}
 use Rattle.entitlements.specs.declared.Account.{Account}
@@ -7,8 +7,8 @@ use Rattle.entitlements.specs.Sound.{message-refused, message-accepted}
 use Rattle.change.specs.declared.Change.{Change}
 use Rattle.change.specs.Change.{makes}
 use Rattle.change.specs.ChangeLaws.{change-processing}
-use Rattle.message.proofs.answer.Statement.{statement}
-use Rattle.message.proofs.answer.Tie as tie
+use Rattle.message.proofs.send.Statement.{statement}
+use Rattle.message.proofs.send.Tie as tie
 
 no-account-requires : tie.Need-no-account-requires
 no-account-requires c κs = search needs
@@ -36,5 +36,5 @@ returns-2 c =
     ∙ change-processing (asked .kind) (asked .t2) (asked .text .now) (asked .number)
     ∙ sym (message-accepted (asked .kind) (asked .t2) (asked .text .now) (asked .number) checked)
 
-pub answer-spec : {M : Type 1} → statement M
-answer-spec = tie.close (tie.spec no-account-requires returns change-of-requires stepped-requires returns-2)
+pub send-spec : {M : Type 1} → statement M
+send-spec = tie.close (tie.spec no-account-requires returns change-of-requires stepped-requires returns-2)
