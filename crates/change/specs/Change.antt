@@ -61,10 +61,14 @@ unfoldable pub cancelling : ℕ → ℕ → Change
 cancelling place number =
     cond (ltb place places) (puts answer.Cancelled number place zeros 0) (keeps answer.NotActive number)
 
--- either message, of a code
+-- either message, of a code that has a place
+abbrev pub actingAt : Kind → List ℕ → ℕ → Halves → ℕ → Change
+actingAt Activate active place code number = activating active place code number
+actingAt Cancel active place code number = cancelling place number
+
+-- and of a code in an account
 abbrev pub actingOn : Kind → Account → Halves → ℕ → Change
-actingOn Activate account code number = activating (account .active) (placeOf account code) code number
-actingOn Cancel account code number = cancelling (placeOf account code) number
+actingOn kind account code number = actingAt kind (account .active) (placeOf account code) code number
 
 -- 41, 42 and "old" change nothing
 unfoldable pub changeOf : Kind → Account → List ℕ → ℕ → Change

@@ -4,7 +4,7 @@
 // `message`.
 ghost use mathlib.Core.Path.{_≡_};
 ghost use Rattle.entitlements.specs.Entitlements.{accountOf};
-ghost use Rattle.change.specs.Change.{stays, stepped, keeps, activating, cancelling, changeOf};
+ghost use Rattle.change.specs.Change.{stays, stepped, keeps, activating, cancelling, actingAt, changeOf};
 use entitlements::Answer;
 use entitlements::Kind;
 use halves::Code;
@@ -106,6 +106,16 @@ fn cancellation(place: usize, number: u64) -> Change
     keep(Answer::NotActive, number)
 }
 
+// What either message changes, by the place of its code.
+fn act(kind: Kind, active: &[u64; PLACES], place: usize, code: Halves, number: u64) -> Change
+    ensures { λ r. ⌜ r ≡ actingAt kind (now (active .entry)) place code number ⌝ }
+{
+    match kind {
+        Kind::Activate => activation(active, place, code, number),
+        Kind::Cancel => cancellation(place, number),
+    }
+}
+
 // What a message of any text and any number changes.
 pub fn change_of<'a>(
     kind: Kind,
@@ -132,8 +142,5 @@ pub fn change_of<'a>(
         return keep(Answer::Old, last);
     }
     let place = places::code_place(high, low, active, code);
-    match kind {
-        Kind::Activate => activation(active, place, code, number),
-        Kind::Cancel => cancellation(place, number),
-    }
+    act(kind, active, place, code, number)
 }

@@ -2,9 +2,8 @@
 use Prim.Native.Nat.{ℕ}
 use native.Mathlib.Omega.{arith}
 use mathlib.Core.Path.{ap, sym, _∙_}
-use Rattle.entitlements.specs.declared.Kind.{Kind}
 use Rattle.entitlements.specs.Entitlements.{accountOf}
-use Rattle.change.specs.Change.{activating, cancelling, actingOn}
+use Rattle.change.specs.Change.{actingAt}
 use Rattle.change.specs.ChangeLaws.{change-zero, change-large, change-refused, change-old, change-acts}
 use borrow.Author.Needs.{needs}
 use Rattle.change.proofs.change_of.Statement.{statement}
@@ -64,44 +63,20 @@ returns-4 c =
 code-place-requires : tie.Need-code-place-requires
 code-place-requires c κs = search needs
 
-enum-told-2 : tie.Need-enum-told-2
-enum-told-2 c = search needs
-
-activation-requires : tie.Need-activation-requires
-activation-requires c κs = search needs
-
-enum-told-3 : tie.Need-enum-told-3
-enum-told-3 c = search needs
-
-cancellation-requires : tie.Need-cancellation-requires
-cancellation-requires c κs = search needs
+act-requires : tie.Need-act-requires
+act-requires c κs = search needs
 
 returns-5 : tie.Need-returns-5
 returns-5 c =
-    let asked = c .before .before .before .before .before .before .before .before .before .before .before .before .args in
+    let asked = c .before .before .before .before .before .before .before .before .before .before .args in
     let account = accountOf (asked .high .now) (asked .low .now) (asked .active .now) (asked .last) in
-    let some = c .before .before .before .before .before .before .before .before .before .before .if1 .left in
-    let most = c .before .before .before .before .before .before .before .before .before .if2 .left in
-    let seen = c .before .before .before .before .before .before .read .given in
-    let read = sym (c .before .before .before .before .before .before .before .before .code-in .ensures) ∙ seen .1 in
-    let acts = change-acts (asked .kind) account (asked .text .now) (asked .number) some most read (omega (arith, c .before .before .before .before .if3 .left)) in
-    c .activation .ensures
-    ∙ ap (λ (place : ℕ). activating (asked .active .now) place (seen .0 .0) (asked .number)) (c .before .before .before .code-place .ensures)
-    ∙ ap (λ (kind : Kind). actingOn kind account (seen .0 .0) (asked .number)) (sym (c .before .enum-told2 .given .1))
-    ∙ sym acts
-
-returns-6 : tie.Need-returns-6
-returns-6 c =
-    let asked = c .before .before .before .before .before .before .before .before .before .before .before .before .args in
-    let account = accountOf (asked .high .now) (asked .low .now) (asked .active .now) (asked .last) in
-    let some = c .before .before .before .before .before .before .before .before .before .before .if1 .left in
-    let most = c .before .before .before .before .before .before .before .before .before .if2 .left in
-    let seen = c .before .before .before .before .before .before .read .given in
-    let read = sym (c .before .before .before .before .before .before .before .before .code-in .ensures) ∙ seen .1 in
-    let acts = change-acts (asked .kind) account (asked .text .now) (asked .number) some most read (omega (arith, c .before .before .before .before .if3 .left)) in
-    c .cancellation .ensures
-    ∙ ap (λ (place : ℕ). cancelling place (asked .number)) (c .before .before .before .code-place .ensures)
-    ∙ ap (λ (kind : Kind). actingOn kind account (seen .0 .0) (asked .number)) (sym (c .before .enum-told3 .given .1))
+    let some = c .before .before .before .before .before .before .before .before .if1 .left in
+    let most = c .before .before .before .before .before .before .before .if2 .left in
+    let seen = c .before .before .before .before .read .given in
+    let read = sym (c .before .before .before .before .before .before .code-in .ensures) ∙ seen .1 in
+    let acts = change-acts (asked .kind) account (asked .text .now) (asked .number) some most read (omega (arith, c .before .before .if3 .left)) in
+    c .act .ensures
+    ∙ ap (λ (place : ℕ). actingAt (asked .kind) (asked .active .now) place (seen .0 .0) (asked .number)) (c .before .code-place .ensures)
     ∙ sym acts
 
 pub change-of-spec : {M : Type 1} → statement M
@@ -120,9 +95,5 @@ change-of-spec =
     keep-requires-4
     returns-4
     code-place-requires
-    enum-told-2
-    activation-requires
-    enum-told-3
-    cancellation-requires
-    returns-5
-    returns-6)
+    act-requires
+    returns-5)
