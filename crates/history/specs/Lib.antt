@@ -1,3 +1,4 @@
--- The history of an account, and the theorem of it.
+-- The history of an account, the theorem of it, and one that is computed.
 pub mod History
 pub mod HistoryLaws
+pub mod Examples
