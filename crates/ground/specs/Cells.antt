@@ -9,12 +9,12 @@ use Rattle.ground.specs.declared.Rectangle.{Rectangle}
 use Rattle.ground.specs.declared.Cell.{Cell}
 use Rattle.ground.specs.declared.cells.Sides.{Sides}
 use Rattle.ground.specs.declared.cells.Sides.the-variants.{Of, NoCell}
-use Rattle.ground.specs.Levels.{lat, lon, degree, minute, latEnd, lonEnd, coarsestLevel, finestLevel, IsLevel, smallestSize, sizeOf}
+use Rattle.ground.specs.Levels.{lat, lon, degree, minute, latEnd, lonEnd, coarsestLevel, finestLevel, minuteLevel, IsLevel, smallestSize, sizeOf}
 use Rattle.ground.specs.Rectangles.{centreOf}
 
 -- Cells of levels 10 to 15 start afresh at each whole degree, cells of levels 16 and up at each whole minute
 unfoldable pub afresh : ℕ → ℕ
-afresh level = cond (leb level 15) degree minute
+afresh level = cond (leb level minuteLevel) degree minute
 
 -- Where the cells around an angle started afresh
 abbrev pub startOf : ℕ → ℕ → ℕ

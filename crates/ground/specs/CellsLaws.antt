@@ -11,7 +11,7 @@ use borrow.Author.Tests.{leb-true, leb-false, eqb-false, le-leb, eq-eqb}
 use Rattle.ground.specs.declared.Rectangle.{Rectangle}
 use Rattle.ground.specs.declared.Cell.{Cell}
 use Rattle.ground.specs.declared.cells.Sides.the-variants.{Of, NoCell}
-use Rattle.ground.specs.Levels.{lat, lon, degree, minute, latEnd, lonEnd, coarsestLevel, finestLevel, IsLevel, smallestSize, sizeOf}
+use Rattle.ground.specs.Levels.{lat, lon, degree, minute, latEnd, lonEnd, coarsestLevel, finestLevel, minuteLevel, IsLevel, smallestSize, sizeOf}
 use Rattle.ground.specs.LevelsLaws.{size-least, size-whole, size-even}
 use Rattle.ground.specs.Rectangles.{Wide, centreOf}
 use Rattle.ground.specs.Cells.{afresh, startOf, lowSide, highSide, sidesOf, IsCell, locationCell, isSide, isCell, sidesFound}
@@ -20,7 +20,7 @@ use Rattle.ground.specs.Cells.{afresh, startOf, lowSide, highSide, sides
 pub low-below-high : (level a : ℕ) → IsLevel level → a < highSide level a
 unfolding highSide afresh
 low-below-high level a l =
-    at (leb level 15)
+    at (leb level minuteLevel)
   where
     at : (t : Bool) → a < min (a + sizeOf level) (a / cond t degree minute * cond t degree minute + cond t degree minute)
     at true = omega (arith, size-least level l)
@@ -75,7 +75,7 @@ found-none c e = at (isCell c) e
 -- Cells start afresh at each degree or at each minute
 pub afresh-so : (P : ℕ → Type 0) → P degree → P minute → (level : ℕ) → P (afresh level)
 unfolding afresh
-afresh-so P d m level = at (leb level 15)
+afresh-so P d m level = at (leb level minuteLevel)
   where
     at : (b : Bool) → P (cond b degree minute)
     at true = d
@@ -118,9 +118,9 @@ module _ (level : ℕ) (l : IsLevel level) {a : ℕ} (is : lowSide level a ≡ a
       is
 
   -- and of 64 at each level before the finest
-  pub sides-64 : level ≤ 26 → Whole 64 a (highSide level a)
-  sides-64 finer =
-      sides-whole 64 level a (dvd-of-mod-eq-zero 64 (size-even level (l .coarsest) finer))
+  pub sides-64 : level < finestLevel → Whole 64 a (highSide level a)
+  sides-64 coarser =
+      sides-whole 64 level a (dvd-of-mod-eq-zero 64 (size-even level (l .coarsest) coarser))
       (afresh-so (λ (n : ℕ). 64 ∣ n) (dvd-of-mod-eq-zero 64 refl) (dvd-of-mod-eq-zero 64 refl) level)
       (omega (arith, size-least level l))
       is
@@ -164,8 +164,8 @@ located c is = at (eqb (c .level) finestLevel) refl
         }
     at false e =
         let other : c .level ≢ finestLevel = eqb-false (c .level) finestLevel e in
-        let finer : c .level ≤ 26 = omega (arith, is .level .finest) in
+        let coarser : c .level < finestLevel = omega (arith, is .level .finest) in
         record {
-          lat = half (sides-64 (c .level) (is .level) (is .south) finer);
-          lon = half (sides-64 (c .level) (is .level) (is .west) finer);
+          lat = half (sides-64 (c .level) (is .level) (is .south) coarser);
+          lon = half (sides-64 (c .level) (is .level) (is .west) coarser);
         }

@@ -1,9 +1,10 @@
 -- Angles and levels (document 01, "Angles and grid"). Assumes nothing.
-use Prim.Native.Nat.{ℕ, _+_, _-_, _*_, _≤_}
+use Prim.Native.Nat.{ℕ, suc, _-_, _*_, _≤_}
 use mathlib.Core.Bool.{cond}
 use mathlib.Core.List.{List, [], _∷_}
 use lib.Dec.{ltb}
 use lib.ListN.{getD}
+use Rattle.facts.specs.Lists.{countUp}
 use Rattle.ground.specs.declared.Lat.{Lat}
 use Rattle.ground.specs.declared.Lon.{Lon}
 
@@ -38,6 +39,10 @@ coarsestLevel = 9
 abbrev pub finestLevel : ℕ
 finestLevel = 27
 
+-- in turn
+abbrev pub levels : List ℕ
+levels = countUp (suc (finestLevel - coarsestLevel)) coarsestLevel
+
 pub record IsLevel (level : ℕ) : Type 0 where
   pub coarsest : coarsestLevel ≤ level
   pub finest : level ≤ finestLevel
@@ -49,6 +54,10 @@ sizes =
     ∷ 3932160 ∷ 1966080 ∷ 983040 ∷ 491520 ∷ 245760 ∷ 122880
     ∷ 65536 ∷ 32768 ∷ 16384 ∷ 8192 ∷ 4096 ∷ 2048
     ∷ 1024 ∷ 512 ∷ 256 ∷ 128 ∷ 64 ∷ 32 ∷ []
+
+-- the level of a minute, the last whose cells start afresh at each degree
+abbrev pub minuteLevel : ℕ
+minuteLevel = 15
 
 -- the smallest of them
 abbrev pub smallestSize : ℕ

@@ -1,44 +1,84 @@
 -- The laws of the levels' sizes, each for the level as a parameter: a test that the checker computes over all levels, turned into the rule at
 -- each level. Assumes nothing.
-use Prim.Native.Nat.{ℕ, suc, _+_, _*_, _%_, _≤_, _<_}
+use Prim.Native.Nat.{ℕ, suc, _+_, _-_, _*_, _/_, _%_, _^_, _≤_, _<_}
 use native.Mathlib.Omega.{arith}
-use mathlib.Core.Path.{_≡_}
-use mathlib.Core.Bool.{Bool}
-use lib.Dec.{T, leb, eqb, leb→le, eqb→eq}
+use mathlib.Core.Path.{_≡_, refl, _∙_}
+use mathlib.Core.Logic.{_⊎_, inl, inr}
+use mathlib.Core.Bool.{Bool, cond}
+use lib.Dec.{T, leb, ltb, eqb, leb→le, eqb→eq}
+use lib.ListN.{List·getD-eq-default}
+use borrow.Author.Tests.{lt-ltb, le-ltb}
 use Rattle.facts.specs.Lists.{countUp, count-all, every, every-in}
-use Rattle.ground.specs.Levels.{degree, coarsestLevel, finestLevel, IsLevel, smallestSize, sizeOf}
+use Rattle.ground.specs.Levels.{second, minute, degree, coarsestLevel, finestLevel, minuteLevel, IsLevel, levels, sizes, smallestSize, sizeOf}
 
--- What a test says of a level, where each of so many levels from the coarsest on passes it
-pub at-level : (test : ℕ → Bool) (n : ℕ) → T (every test (countUp n coarsestLevel)) → (level : ℕ) → coarsestLevel ≤ level
-    → level < coarsestLevel + n → T (test level)
-at-level test n t level low high = every-in test (countUp n coarsestLevel) t level (count-all n coarsestLevel level low high)
+-- What a test says of a level, where every level passes it
+pub at-level : (test : ℕ → Bool) → T (every test levels) → (level : ℕ) → IsLevel level → T (test level)
+at-level test t level l =
+    every-in test levels t level (count-all (suc (finestLevel - coarsestLevel)) coarsestLevel level (l .coarsest) (omega (arith, l .finest)))
+
+-- and of one before the finest, where each of those does
+pub at-coarser : (test : ℕ → Bool) → T (every test (countUp (finestLevel - coarsestLevel) coarsestLevel)) → (level : ℕ) → coarsestLevel ≤ level
+    → level < finestLevel → T (test level)
+at-coarser test t level low high =
+    every-in test (countUp (finestLevel - coarsestLevel) coarsestLevel) t level (count-all (finestLevel - coarsestLevel) coarsestLevel level low high)
+
+-- What is no level has no size
+pub size-none : (level : ℕ) → (level < coarsestLevel) ⊎ (finestLevel < level) → sizeOf level ≡ 0
+unfolding sizeOf
+size-none level (inl h) = rw (lt-ltb level coarsestLevel h)
+size-none level (inr h) =
+    rw (le-ltb level coarsestLevel (omega arith)) (List·getD-eq-default sizes 0 {n = level - coarsestLevel} (omega arith))
+
+-- The coarsest level's is a degree
+pub size-coarsest : sizeOf coarsestLevel ≡ degree
+unfolding sizeOf
+size-coarsest = refl
+
+-- A level's size from degree, minute and second by halving (document 02, request 4): a degree at the coarsest; after it 64 minutes, and
+-- after the level of a minute 64 seconds, each halved once for every level
+abbrev byHalving : ℕ → ℕ
+byHalving level =
+    cond (ltb minuteLevel level) (64 * second / 2 ^ (level - minuteLevel))
+    (cond (ltb coarsestLevel level) (64 * minute / 2 ^ (level - coarsestLevel)) degree)
 
 module _ (level : ℕ) (l : IsLevel level) where
+  -- is the size in the table
+  size-halved : sizeOf level ≡ byHalving level
+  unfolding sizeOf
+  size-halved = eqb→eq (sizeOf level) (byHalving level) (at-level (λ n. eqb (sizeOf n) (byHalving n)) tt level l)
+
+  -- which is so many halves of 64 seconds
+  pub size-seconds : minuteLevel < level → sizeOf level ≡ 64 * second / 2 ^ (level - minuteLevel)
+  size-seconds h = size-halved ∙ rw (lt-ltb minuteLevel level h)
+
+  -- or of 64 minutes
+  pub size-minutes : coarsestLevel < level → level ≤ minuteLevel → sizeOf level ≡ 64 * minute / 2 ^ (level - coarsestLevel)
+  size-minutes h k = size-halved ∙ rw (le-ltb minuteLevel level k, lt-ltb coarsestLevel level h)
+
   -- A size is at least the smallest and at most a degree
   pub size-least : smallestSize ≤ sizeOf level
   unfolding sizeOf
-  size-least = leb→le smallestSize (sizeOf level) (at-level (λ n. leb smallestSize (sizeOf n)) 19 tt level (l .coarsest) (omega (arith, l .finest)))
+  size-least = leb→le smallestSize (sizeOf level) (at-level (λ n. leb smallestSize (sizeOf n)) tt level l)
 
   pub size-most : sizeOf level ≤ degree
   unfolding sizeOf
-  size-most = leb→le (sizeOf level) degree (at-level (λ n. leb (sizeOf n) degree) 19 tt level (l .coarsest) (omega (arith, l .finest)))
+  size-most = leb→le (sizeOf level) degree (at-level (λ n. leb (sizeOf n) degree) tt level l)
 
   -- and a multiple of the smallest
   pub size-whole : sizeOf level % smallestSize ≡ 0
   unfolding sizeOf
-  size-whole =
-      eqb→eq (sizeOf level % smallestSize) 0
-      (at-level (λ n. eqb (sizeOf n % smallestSize) 0) 19 tt level (l .coarsest) (omega (arith, l .finest)))
+  size-whole = eqb→eq (sizeOf level % smallestSize) 0 (at-level (λ n. eqb (sizeOf n % smallestSize) 0) tt level l)
 
--- and of 64 at each level before the finest
-pub size-even : (level : ℕ) → coarsestLevel ≤ level → level ≤ 26 → sizeOf level % 64 ≡ 0
-unfolding sizeOf
-size-even level low high =
-    eqb→eq (sizeOf level % 64) 0 (at-level (λ n. eqb (sizeOf n % 64) 0) 18 tt level low (omega arith))
+module _ (level : ℕ) (low : coarsestLevel ≤ level) (high : level < finestLevel) where
+  -- and of twice that at each level before the finest
+  pub size-even : sizeOf level % (2 * smallestSize) ≡ 0
+  unfolding sizeOf
+  size-even =
+      eqb→eq (sizeOf level % (2 * smallestSize)) 0 (at-coarser (λ n. eqb (sizeOf n % (2 * smallestSize)) 0) tt level low high)
 
--- A level's size is at least 15/8 of the next finer one's
-pub size-step : (level : ℕ) → coarsestLevel ≤ level → level < finestLevel → sizeOf (suc level) * 15 ≤ sizeOf level * 8
-unfolding sizeOf
-size-step level low high =
-    leb→le (sizeOf (suc level) * 15) (sizeOf level * 8)
-    (at-level (λ n. leb (sizeOf (suc n) * 15) (sizeOf n * 8)) 18 tt level low (omega arith))
+  -- A level's size is at least 15/8 of the next finer one's
+  pub size-step : sizeOf (suc level) * 15 ≤ sizeOf level * 8
+  unfolding sizeOf
+  size-step =
+      leb→le (sizeOf (suc level) * 15) (sizeOf level * 8)
+      (at-coarser (λ n. leb (sizeOf (suc n) * 15) (sizeOf n * 8)) tt level low high)

@@ -16,7 +16,7 @@ pub fn afresh(level: u32) -> u32
     ensures { λ r. ⌜ r ≡ Cells·afresh level ⌝ }
     ensures { λ r. ⌜ (minute ≤ r) × (r ≤ degree) ⌝ }
 {
-    if level <= 15 {
+    if level <= crate::MINUTE_LEVEL {
         crate::DEGREE
     } else {
         crate::MINUTE

@@ -20,6 +20,9 @@ pub const DEGREE: u32 = 7372800;
 // A minute in u.
 pub const MINUTE: u32 = 122880;
 
+// A second in u.
+const SECOND: u32 = 2048;
+
 // The ends of the ranges, which are included: 90° and 180°.
 pub const LAT_END: u32 = 663552000;
 
@@ -29,6 +32,9 @@ pub const LON_END: u32 = 1327104000;
 pub const COARSEST: u32 = 9;
 
 pub const FINEST: u32 = 27;
+
+// The level whose size is a minute, the last that starts afresh at each degree.
+const MINUTE_LEVEL: u32 = 15;
 
 // The smallest nominal size, that of the finest level.
 pub const SMALLEST: u32 = 32;
@@ -65,38 +71,19 @@ pub struct Cell {
     pub south: Lat,
 }
 
-// The nominal sizes of levels 9 to 27, in u (annex D of TD/T 1082-2023's draft).
-const SIZES: [u32; 19] = [
-    7372800,
-    3932160,
-    1966080,
-    983040,
-    491520,
-    245760,
-    122880,
-    65536,
-    32768,
-    16384,
-    8192,
-    4096,
-    2048,
-    1024,
-    512,
-    256,
-    128,
-    64,
-    32,
-];
-
-// The nominal size of a level's cells, and 0 for what is no level from 9 to 27.
+// The nominal size of a level's cells, and 0 for what is no level: a degree at the coarsest; at the levels
+// after it 64 minutes, halved once for each, and after a minute's own 64 seconds, halved so.
 pub fn size(level: u32) -> u32
     ensures { λ r. ⌜ r ≡ sizeOf level ⌝ }
 {
-    if level < COARSEST {
-        return 0;
-    }
     if FINEST < level {
         return 0;
     }
-    SIZES[(level - COARSEST) as usize]
+    if MINUTE_LEVEL < level {
+        return (64 * SECOND) >> (level - MINUTE_LEVEL);
+    }
+    if COARSEST < level {
+        return (64 * MINUTE) >> (level - COARSEST);
+    }
+    if level == COARSEST { DEGREE } else { 0 }
 }
