@@ -5,10 +5,10 @@ use mathlib.Core.Logic.{_⊎_}
 use mathlib.Core.Bool.{true, false, cond}
 use mathlib.Core.List.{List, [], _∷_}
 use lib.Dec.{T, ltb}
-use Rattle.facts.specs.Lists.{Each, countUp}
+use Rattle.facts.specs.Lists.{Each}
 use Rattle.ground.specs.declared.Rectangle.{Rectangle}
 use Rattle.ground.specs.declared.Cell.{Cell}
-use Rattle.ground.specs.Levels.{lat, lon, latEnd, lonEnd, coarsestLevel, smallestSize}
+use Rattle.ground.specs.Levels.{lat, lon, latEnd, lonEnd, levels, smallestSize}
 use Rattle.ground.specs.Rectangles.{Holds, Ordered}
 use Rattle.ground.specs.Cells.{lowSide, highSide, IsCell}
 use Rattle.edge.specs.Edge.{Edge}
@@ -75,7 +75,7 @@ tryLevel r es level = firstAmong (tryWest r es level) (wests r level)
 
 -- The chosen cell as a computation, over the extents and the edges of a boundary: levels 9 to 27 in turn
 unfoldable pub choose : Rectangle → List Edge → Choice
-choose r es = firstAmong (tryLevel r es) (countUp 19 coarsestLevel)
+choose r es = firstAmong (tryLevel r es) levels
 
 -- What a search may take for granted of extents and edges: the edges close, both ends of each lie within the extents, and these within the
 -- range

@@ -11,12 +11,13 @@ use lib.Dec.{T, ltb}
 use borrow.Author.Tests.{ltb-true, ltb-false}
 use Rattle.facts.specs.Tests.{true-of}
 use Rattle.facts.specs.Numbers.{Compared, less, same, more, compared}
-use Rattle.facts.specs.Lists.{Each, each-so, each-in, In, Rising, countUp, count-each, count-rising, count-all}
+use Rattle.facts.specs.Lists.{Each, each-so, each-in, In, Rising}
 use Rattle.ground.specs.declared.Rectangle.{Rectangle}
 use Rattle.ground.specs.declared.Cell.{Cell}
-use Rattle.ground.specs.Levels.{lat, lon, degree, coarsestLevel, IsLevel, smallestSize}
+use Rattle.ground.specs.Levels.{lat, lon, degree, levels, IsLevel, smallestSize}
 use Rattle.ground.specs.Cells.{lowSide, highSide, sidesOf, IsCell}
-use Rattle.ground.specs.CellsLaws.{low-below-high, sides-32}
+use Rattle.ground.specs.LevelsLaws.{levels-are, levels-all, levels-rising}
+use Rattle.ground.specs.CellsLaws.{low-below-high, sides-smallest}
 use Rattle.ground.specs.SidesLaws.{low-most, low-low, below-high, high-low, none-between, side-end}
 use Rattle.edge.specs.Edge.{Edge}
 use Rattle.boundary.specs.Boundary.{inside}
@@ -65,7 +66,7 @@ module _ (level : ℕ) (l : IsLevel level) where
       at true e later = (
         record { is = is; least = omega arith; below = ltb-true a end e },
         each-so
-            (λ x h. record { is = h .is; least = omega (arith, sides-32 level l is .apart, h .least); below = h .below })
+            (λ x h. record { is = h .is; least = omega (arith, sides-smallest level l is .apart, h .least); below = h .below })
             (sidesFrom n level (highSide level a) end) later,
       )
       at false e later = tt
@@ -82,7 +83,7 @@ module _ (level : ℕ) (l : IsLevel level) where
           → Rising (elim t [ true ↦ a ∷ sidesFrom n level (highSide level a) end | false ↦ [] ])
       at true later rising = (
         each-so
-            (λ x h. omega (arith, sides-32 level l is .apart, h .least))
+            (λ x h. omega (arith, sides-smallest level l is .apart, h .least))
             (sidesFrom n level (highSide level a) end) later,
         rising,
       )
@@ -106,7 +107,7 @@ module _ (level : ℕ) (l : IsLevel level) where
       from-next n a end b h λ k.
       from-all n (highSide level a) end b (high-low level l a is)
       (record { is = h .is; least = none-between level l a b is (h .is) k; below = h .below })
-      (omega (arith, sides-32 level l is .apart, none-between level l a b is (h .is) k))
+      (omega (arith, sides-smallest level l is .apart, none-between level l a b is (h .is) k))
 
   -- The sides over an extent are low sides, from that of its first angle on and below its end
   pub over-sides : (from to : ℕ) → Each (Side level (lowSide level from) to) (sidesOver level from to)
@@ -184,12 +185,6 @@ first-found try (x ∷ xs) {c} r e = at (try x) refl e (first-found try xs (r .1
         lesser f y (inl e) h = ap try e ∙ here
         lesser f y (inr m) h = f .lesser y m h
 
--- The levels that are tried are 9 to 27
-levels-are : (level : ℕ) → In level (countUp 19 coarsestLevel) → IsLevel level
-levels-are level m =
-    let h = each-in (λ a. (coarsestLevel ≤ a) × (a < coarsestLevel + 19)) (countUp 19 coarsestLevel) level (count-each 19 coarsestLevel) m in
-    record { coarsest = h .0; finest = omega arith }
-
 -- Where trying a cell gives one, it is that cell and it is inside
 tried-at : (es : List Edge) (c : Cell) {d : Cell} → tried es c ≡ At d → T (inside es c) × (c ≡ d)
 tried-at es c {d} e = at (inside es c) e
@@ -208,7 +203,7 @@ tried-none es c e t = at (inside es c) e t
 
 module _ {r : Rectangle} {es : List Edge} (o : Over r es) where
   -- The computation tries the levels 9 to 27
-  choose-is : choose r es ≡ firstAmong (tryLevel r es) (countUp 19 coarsestLevel)
+  choose-is : choose r es ≡ firstAmong (tryLevel r es) levels
   unfolding choose
   choose-is = refl
 
@@ -228,8 +223,8 @@ module _ {r : Rectangle} {es : List Edge} (o : Over r es) where
         over-in (d .level) (is .level) (r .south .0) (r .north .0) (d .south .0) (is .south)
         (within .south) (within .north)
 
-    level-in : In (d .level) (countUp 19 coarsestLevel)
-    level-in = count-all 19 coarsestLevel (d .level) (is .level .coarsest) (omega (arith, is .level .finest))
+    level-in : In (d .level) levels
+    level-in = levels-all (d .level) (is .level)
 
     -- and trying them gives a cell
     some-south : trySouth es (d .level) (d .west .0) (d .south .0) ≡ Nowhere → ⊥
@@ -251,10 +246,10 @@ module _ {r : Rectangle} {es : List Edge} (o : Over r es) where
   pub choose-none : choose r es ≡ Nowhere → (c : Cell) → IsCell c → T (inside es c) → ⊥
   choose-none e c is t =
       some-level c is t
-      (each-in (λ n. tryLevel r es n ≡ Nowhere) (countUp 19 coarsestLevel) (c .level)
-      (first-none (tryLevel r es) (countUp 19 coarsestLevel) (sym choose-is ∙ e)) (level-in c is t))
+      (each-in (λ n. tryLevel r es n ≡ Nowhere) levels (c .level)
+      (first-none (tryLevel r es) levels (sym choose-is ∙ e)) (level-in c is t))
 
-  module _ {c : Cell} (l : Found (tryLevel r es) (countUp 19 coarsestLevel) c) (w : Found (tryWest r es (l .number)) (wests r (l .number)) c)
+  module _ {c : Cell} (l : Found (tryLevel r es) levels c) (w : Found (tryWest r es (l .number)) (wests r (l .number)) c)
       (s : Found (trySouth es (l .number) (w .number)) (souths r (l .number)) c) where
     -- A level, a west and a south side that are found first make a cell
     abbrev found : Cell
@@ -301,7 +296,7 @@ module _ {r : Rectangle} {es : List Edge} (o : Over r es) where
     -- What the computation gives is the chosen cell
     pub choose-chosen : {c : Cell} → choose r es ≡ At c → Chosen es c
     choose-chosen {c} e =
-        let l : Found (tryLevel r es) (countUp 19 coarsestLevel) c = first-found (tryLevel r es) (countUp 19 coarsestLevel) (count-rising 19 coarsestLevel) (sym choose-is ∙ e) in
+        let l : Found (tryLevel r es) levels c = first-found (tryLevel r es) levels levels-rising (sym choose-is ∙ e) in
         let level = levels-are (l .number) (l .among) in
         let w : Found (tryWest r es (l .number)) (wests r (l .number)) c =
         first-found (tryWest r es (l .number)) (wests r (l .number))
@@ -350,4 +345,4 @@ module _ (r : Rectangle) (es ds : List Edge) (agree : (c : Cell) → IsLevel (c 
   pub choose-same : choose r es ≡ choose r ds
   unfolding choose
   choose-same =
-      among-same (tryLevel r es) (tryLevel r ds) (countUp 19 coarsestLevel) (λ level m. level-same level (levels-are level m))
+      among-same (tryLevel r es) (tryLevel r ds) levels (λ level m. level-same level (levels-are level m))

@@ -8,7 +8,7 @@ use lib.ListN.{length}
 use Rattle.replies.specs.Replies.{Said, refused, accepted, Check, check, run, Outcome, outcome}
 use Rattle.ground.specs.declared.Point.{Point}
 use Rattle.ground.specs.declared.Rectangle.{Rectangle}
-use Rattle.ground.specs.Levels.{lat, lon, latEnd, lonEnd, finestLevel, smallestSize, sizeOf}
+use Rattle.ground.specs.Levels.{lat, lon, latEnd, lonEnd, locationSize, sizeOf}
 use Rattle.letters.specs.Digits.{valueOf}
 use Rattle.location.specs.Location.{locationOf, referenceIn, latIn, lonIn, degreesIn, minutesIn, secondsIn, hemisphereIn}
 use Rattle.spelling.specs.Spelling.{spelledBoth, Numbers, numbersIn}
@@ -56,13 +56,17 @@ rectangleOf f = record {
 abbrev pub outside : ℕ → ℕ → ℕ → Bool
 outside least most x = ltb x least || ltb most x
 
+-- The finest level that a scale has, whatever the finest level is
+abbrev pub finestScale : ℕ
+finestScale = 27
+
 -- Whether a scale is not 14 to 27
 abbrev pub noScale : ℕ → Bool
-noScale scale = outside 14 finestLevel scale
+noScale scale = outside 14 finestScale scale
 
 -- Whether an angle is no multiple of 32, or at or above its end
 abbrev pub noReference : ℕ → ℕ → Bool
-noReference a end = not (eqb (a % smallestSize) 0) || leb end a
+noReference a end = not (eqb (a % locationSize) 0) || leb end a
 
 -- Reference not a multiple of 32, or at or above 90° or 180°
 abbrev pub noPoint : Point → Bool

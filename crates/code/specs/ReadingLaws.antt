@@ -9,7 +9,6 @@ use borrow.Author.Tests.{ltb-false, ne-eqb, le-ltb, eqb-true, eqb-false}
 use Rattle.replies.specs.Replies.{Said, accepted, run}
 use Rattle.replies.specs.RepliesLaws.{numbered, Passed, passed, run-append, run-second, both-pass}
 use Rattle.facts.specs.Tests.{neither, none-of}
-use Rattle.ground.specs.Levels.{finestLevel}
 use Rattle.location.specs.Location.{degreesIn, minutesIn, secondsIn, hemisphereIn, latIn, lonIn}
 use Rattle.location.specs.LocationLaws.{Sixtieths}
 use Rattle.spelling.specs.Spelling.{locationIn, restIn, textChecks, twoNumbers, noNumbers, numbersIn}
@@ -17,6 +16,7 @@ use Rattle.spelling.specs.SpellingLaws.{TwentyLetters, text-numbered, text-pass
 use Rattle.code.specs.declared.Fields.{Fields}
 use Rattle.code.specs.Code.{
   fieldsIn,
+  finestScale,
   noScale,
   otherHemisphere,
   pastDegrees,
@@ -96,7 +96,7 @@ located-passes location l =
 
 -- A scale and spans that a code can have
 pub record Spanned (f : Fields) : Type 0 where
-  pub scale : (14 ≤ f .scale) × (f .scale ≤ finestLevel)
+  pub scale : (14 ≤ f .scale) × (f .scale ≤ finestScale)
   pub east : 2 ≤ f .east
   pub north : 2 ≤ f .north
   pub west : 1 ≤ f .west
@@ -113,7 +113,7 @@ spans-passed f e = spanned (passed (spanChecks f) tt e)
         let en = neither (ltb (f .east) 2) (ltb (f .north) 2) (en-ws .0) in
         let ws = neither (ltb (f .west) 1) (ltb (f .south) 1) (en-ws .1) in
         record {
-          scale = within 14 finestLevel (f .scale) scale;
+          scale = within 14 finestScale (f .scale) scale;
           east = ltb-false (f .east) 2 (en .0);
           north = ltb-false (f .north) 2 (en .1);
           west = ltb-false (f .west) 1 (ws .0);

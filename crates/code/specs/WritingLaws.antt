@@ -9,11 +9,11 @@ use borrow.Author.Tests.{ltb-false, leb-false, eqb-true, not-false, eq-eqb, ne-e
 use Rattle.replies.specs.Replies.{Said, refused, accepted, run, outcome}
 use Rattle.replies.specs.RepliesLaws.{Passed, passed, run-append, both-pass}
 use Rattle.facts.specs.Tests.{neither, none-of}
-use Rattle.ground.specs.Levels.{latEnd, lonEnd, finestLevel, smallestSize}
+use Rattle.ground.specs.Levels.{latEnd, lonEnd, locationSize}
 use Rattle.location.specs.LocationLaws.{Angle}
 use Rattle.spelling.specs.Spelling.{spelledBoth}
 use Rattle.code.specs.declared.Fields.{Fields}
-use Rattle.code.specs.Code.{codeOf, outside, noReference, noPoint, noSpans, roomCheck, fieldChecks, writing}
+use Rattle.code.specs.Code.{codeOf, outside, finestScale, noReference, noPoint, noSpans, roomCheck, fieldChecks, writing}
 
 -- A code has twenty bytes
 pub code-twenty : (f : Fields) → length (codeOf f) ≡ 20
@@ -33,20 +33,20 @@ in-range {least} {most} {x} k = none-of (le-ltb x least (k .0)) (le-ltb most x (
 -- The same of an angle that a reference can have
 angle : (a end : ℕ) → noReference a end ≡ false → Angle end a
 angle a end e =
-    let h = neither (not (eqb (a % smallestSize) 0)) (leb end a) e in
+    let h = neither (not (eqb (a % locationSize) 0)) (leb end a) e in
     record {
-      whole = eqb-true (a % smallestSize) 0 (not-false (eqb (a % smallestSize) 0) (h .0));
+      whole = eqb-true (a % locationSize) 0 (not-false (eqb (a % locationSize) 0) (h .0));
       below = leb-false end a (h .1);
     }
 
 in-angle : {end a : ℕ} → Angle end a → noReference a end ≡ false
-in-angle {end} {a} k = none-of (ap not (eq-eqb (a % smallestSize) 0 (k .whole))) (lt-leb end a (k .below))
+in-angle {end} {a} k = none-of (ap not (eq-eqb (a % locationSize) 0 (k .whole))) (lt-leb end a (k .below))
 
 -- Fields that a code can have
 pub record Good (f : Fields) : Type 0 where
   pub lat : Angle latEnd (f .reference .lat .0)
   pub lon : Angle lonEnd (f .reference .lon .0)
-  pub scale : (14 ≤ f .scale) × (f .scale ≤ finestLevel)
+  pub scale : (14 ≤ f .scale) × (f .scale ≤ finestScale)
   pub east : (2 ≤ f .east) × (f .east ≤ 31)
   pub north : (2 ≤ f .north) × (f .north ≤ 31)
   pub west : (1 ≤ f .west) × (f .west ≤ 31)
@@ -67,7 +67,7 @@ fields-passed f e = good (passed (fieldChecks f) tt e)
         record {
           lat = angle (f .reference .lat .0) latEnd (p .0);
           lon = angle (f .reference .lon .0) lonEnd (p .1);
-          scale = within 14 finestLevel (f .scale) scale;
+          scale = within 14 finestScale (f .scale) scale;
           east = within 2 31 (f .east) (e .0);
           north = within 2 31 (f .north) (e .1);
           west = within 1 31 (f .west) (en .1);
@@ -80,7 +80,7 @@ pub good-pass : (f : Fields) → Good f → run (fieldChecks f) ≡ accepted
 unfolding fieldChecks
 good-pass f g =
     let point : noPoint (f .reference) ≡ false = none-of (in-angle (g .lat)) (in-angle (g .lon)) in
-    let scale : outside 14 finestLevel (f .scale) ≡ false = in-range (g .scale) in
+    let scale : outside 14 finestScale (f .scale) ≡ false = in-range (g .scale) in
     let spans : noSpans f ≡ false =
     none-of (none-of (none-of (in-range (g .east)) (in-range (g .north))) (in-range (g .west))) (in-range (g .south)) in
     let number : ltb 1048575 (f .number) ≡ false = le-ltb 1048575 (f .number) (g .number) in

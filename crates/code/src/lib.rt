@@ -18,6 +18,9 @@ pub struct Fields {
     pub number: u32,
 }
 
+// The finest level that a scale has.
+pub const FINEST_SCALE: u32 = 27;
+
 // What writing answers: acceptance, or what is refused (21 to 25).
 pub enum Written {
     Accepted,

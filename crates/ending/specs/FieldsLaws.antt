@@ -1,5 +1,5 @@
 -- The fields of a unit from their parts: a cell's reference, the spans from it at a level, and the level of the code. Assumes nothing.
-use Prim.Native.Nat.{ℕ, _+_, _-_, _*_, _/_, _≤_, _<_}
+use Prim.Native.Nat.{ℕ, _+_, _-_, _*_, _/_, _^_, _≤_, _<_}
 use native.Mathlib.Nat.{div-mul-le-self, mul-le-mul-left}
 use native.Mathlib.Omega.{arith}
 use mathlib.Core.Path.{_≡_, sym, subst}
@@ -10,7 +10,7 @@ use Rattle.ground.specs.declared.Point.{Point}
 use Rattle.ground.specs.declared.Rectangle.{Rectangle}
 use Rattle.ground.specs.declared.Cell.{Cell}
 use Rattle.angles.specs.Angles.{distance}
-use Rattle.ground.specs.Levels.{lat, lon, finestLevel, IsLevel, smallestSize, sizeOf}
+use Rattle.ground.specs.Levels.{lat, lon, IsLevel, smallestSize, locationLevel, locationSize, sizeOf}
 use Rattle.ground.specs.LevelsLaws.{size-least}
 use Rattle.ground.specs.Cells.{sidesOf, locationCell, cornerOf}
 use Rattle.ground.specs.Rectangles.{centreOf}
@@ -20,21 +20,21 @@ use Rattle.unit.specs.Unit.{scaleOf, spanCells, fieldsAt, above31, coarser, lev
 use Rattle.unit.specs.ScaleLaws.{scale-level, coarser-level}
 
 -- A span is within a u32
-pub cells-most : (s d : ℕ) → smallestSize ≤ s → d < 4294967296 → s < 4294967296 → (d + (s - 1)) / s ≤ 268435456
+pub cells-most : (s d : ℕ) → smallestSize ≤ s → d < 4294967296 → s < 4294967296 → (d + (s - 1)) / s ≤ 2 ^ 33 / smallestSize
 cells-most s d h k l =
     let q : ℕ = (d + (s - 1)) / s in
     let most : q * s ≤ d + (s - 1) = div-mul-le-self (d + (s - 1)) s in
     let wide : q * smallestSize ≤ q * s = mul-le-mul-left q h in
     omega arith
 
--- The reference of a cell of the finest level is its own corner
-pub reference-finest : (c : Cell) → c .level ≡ finestLevel → cornerOf c ≡ cornerOf (locationCell c)
+-- The reference of a cell of the location cell's level is its own corner
+pub reference-own : (c : Cell) → c .level ≡ locationLevel → cornerOf c ≡ cornerOf (locationCell c)
 unfolding locationCell
-reference-finest c e = rw (eq-eqb (c .level) finestLevel e)
+reference-own c e = rw (eq-eqb (c .level) locationLevel e)
 
--- and of a coarser one the centre less the smallest size
-pub reference-centre : (c : Cell) → eqb (c .level) finestLevel ≡ false → {p : Point} → p ≡ centreOf (sidesOf c)
-    → _≡_ {A = Point} (record { lat = lat (p .lat .0 - smallestSize); lon = lon (p .lon .0 - smallestSize) }) (cornerOf (locationCell c))
+-- and of another the centre less that level's size
+pub reference-centre : (c : Cell) → eqb (c .level) locationLevel ≡ false → {p : Point} → p ≡ centreOf (sidesOf c)
+    → _≡_ {A = Point} (record { lat = lat (p .lat .0 - locationSize); lon = lon (p .lon .0 - locationSize) }) (cornerOf (locationCell c))
 unfolding locationCell sizeOf
 reference-centre c e {p} k = rw (e, k)
 

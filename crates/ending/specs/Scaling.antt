@@ -1,11 +1,12 @@
--- A loop that tries the levels from the finest down for the scale. Assumes nothing.
+-- A loop that tries the levels for the scale, from the finest that one has down. Assumes nothing.
 use Prim.Native.Nat.{ℕ, suc, _+_, _-_, _*_, _<_, _≤_}
 use native.Mathlib.Omega.{arith}
 use mathlib.Core.Path.{_≡_, refl, ap, _∙_, sym}
 use mathlib.Core.Bool.{cond}
 use lib.Dec.{ltb}
 use borrow.Author.Tests.{lt-ltb, le-ltb}
-use Rattle.ground.specs.Levels.{coarsestLevel, finestLevel, IsLevel, sizeOf}
+use Rattle.ground.specs.Levels.{coarsestLevel, IsLevel, sizeOf}
+use Rattle.code.specs.Code.{finestScale}
 use Rattle.unit.specs.Unit.{scaleFrom, scaleOf}
 
 -- Such a loop at a level: the level is one, and no finer one is the scale
@@ -13,8 +14,8 @@ pub record Tried (span level : ℕ) : Type 0 where
   pub is : IsLevel level
   pub scale : scaleOf span ≡ scaleFrom span (level - coarsestLevel)
 
--- The first tried is the finest
-pub scale-begin : (span : ℕ) → Tried span finestLevel
+-- The first tried is the finest that a scale has
+pub scale-begin : (span : ℕ) → Tried span finestScale
 unfolding scaleOf
 scale-begin span = record { is = record { coarsest = omega arith; finest = omega arith }; scale = refl }
 

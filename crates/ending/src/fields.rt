@@ -10,12 +10,12 @@ use crate::scale::coarser;
 use crate::scale::scale_of;
 use code::Fields;
 use ground::Cell;
-use ground::FINEST;
+use ground::LOCATION_LEVEL;
+use ground::LOCATION_SIZE;
 use ground::Lat;
 use ground::Lon;
 use ground::Point;
 use ground::Rectangle;
-use ground::SMALLEST;
 
 // The distance of two angles of one direction, divided by a size and rounded up, plus 1.
 fn span_cells(s: u32, from: u32, to: u32) -> u32
@@ -33,7 +33,7 @@ fn reference(c: Cell, sides: Rectangle) -> Point
 {
     let west = c.west;
     let south = c.south;
-    if c.level == FINEST {
+    if c.level == LOCATION_LEVEL {
         return Point {
             lat: south,
             lon: west,
@@ -41,8 +41,8 @@ fn reference(c: Cell, sides: Rectangle) -> Point
     }
     let p = ground::centre(sides);
     Point {
-        lat: Lat(angles::less(p.lat.0, SMALLEST)),
-        lon: Lon(angles::less(p.lon.0, SMALLEST)),
+        lat: Lat(angles::less(p.lat.0, LOCATION_SIZE)),
+        lon: Lon(angles::less(p.lon.0, LOCATION_SIZE)),
     }
 }
 

@@ -9,7 +9,8 @@ use Rattle.ground.specs.declared.Rectangle.{Rectangle}
 use Rattle.ground.specs.declared.Cell.{Cell}
 use Rattle.ground.specs.declared.cells.Sides.{Sides}
 use Rattle.ground.specs.declared.cells.Sides.the-variants.{Of, NoCell}
-use Rattle.ground.specs.Levels.{lat, lon, degree, minute, latEnd, lonEnd, coarsestLevel, finestLevel, minuteLevel, IsLevel, smallestSize, sizeOf}
+use Rattle.ground.specs.Levels.{lat, lon, degree, minute, latEnd, lonEnd, coarsestLevel, finestLevel, IsLevel, sizeOf}
+use Rattle.ground.specs.Levels.{minuteLevel, locationLevel, locationSize}
 use Rattle.ground.specs.Rectangles.{centreOf}
 
 -- Cells of levels 10 to 15 start afresh at each whole degree, cells of levels 16 and up at each whole minute
@@ -48,11 +49,11 @@ pub record IsCell (c : Cell) : Type 0 where
 -- The location cell is the level 27 cell whose north-east corner is that centre; for a cell of level 27 it is that cell itself
 unfoldable pub locationCell : Cell → Cell
 locationCell c =
-    cond (eqb (c .level) finestLevel) c
+    cond (eqb (c .level) locationLevel) c
     (record {
-      level = finestLevel;
-      west = lon (centreOf (sidesOf c) .lon .0 - smallestSize);
-      south = lat (centreOf (sidesOf c) .lat .0 - smallestSize);
+      level = locationLevel;
+      west = lon (centreOf (sidesOf c) .lon .0 - locationSize);
+      south = lat (centreOf (sidesOf c) .lat .0 - locationSize);
     })
 
 -- The south-west corner of a cell

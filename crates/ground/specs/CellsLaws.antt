@@ -7,12 +7,13 @@ use mathlib.Core.Path.{_≡_, refl, subst}
 use mathlib.Core.Logic.{_≢_}
 use mathlib.Core.Bool.{Bool, true, false, cond, _&&_, false≢true}
 use lib.Dec.{leb, eqb}
-use borrow.Author.Tests.{leb-true, leb-false, eqb-false, le-leb, eq-eqb}
+use borrow.Author.Tests.{leb-true, leb-false, eqb-true, eqb-false, le-leb, eq-eqb}
 use Rattle.ground.specs.declared.Rectangle.{Rectangle}
 use Rattle.ground.specs.declared.Cell.{Cell}
 use Rattle.ground.specs.declared.cells.Sides.the-variants.{Of, NoCell}
-use Rattle.ground.specs.Levels.{lat, lon, degree, minute, latEnd, lonEnd, coarsestLevel, finestLevel, minuteLevel, IsLevel, smallestSize, sizeOf}
-use Rattle.ground.specs.LevelsLaws.{size-least, size-whole, size-even}
+use Rattle.ground.specs.Levels.{lat, lon, degree, minute, latEnd, lonEnd, coarsestLevel, finestLevel, IsLevel, smallestSize, sizeOf}
+use Rattle.ground.specs.Levels.{minuteLevel, locationLevel, locationSize}
+use Rattle.ground.specs.LevelsLaws.{size-least, size-whole, size-located, size-even}
 use Rattle.ground.specs.Rectangles.{Wide, centreOf}
 use Rattle.ground.specs.Cells.{afresh, startOf, lowSide, highSide, sidesOf, IsCell, locationCell, isSide, isCell, sidesFound}
 
@@ -109,27 +110,31 @@ sides-whole u level a s m h is =
     record { low = mod-eq-zero-of-dvd u low; high = mod-eq-zero-of-dvd u high; apart = omega arith }
 
 module _ (level : ℕ) (l : IsLevel level) {a : ℕ} (is : lowSide level a ≡ a) where
-  -- A cell's sides are whole multiples of the smallest size, and apart by at least as much
-  pub sides-32 : Whole smallestSize a (highSide level a)
-  sides-32 =
-      sides-whole smallestSize level a (dvd-of-mod-eq-zero smallestSize (size-whole level l))
-      (afresh-so (λ (n : ℕ). smallestSize ∣ n) (dvd-of-mod-eq-zero smallestSize refl) (dvd-of-mod-eq-zero smallestSize refl) level)
+  -- A cell's sides are whole multiples of what its size, a degree and a minute are multiples of
+  sides-of : (u : ℕ) → sizeOf level % u ≡ 0 → degree % u ≡ 0 → minute % u ≡ 0 → Whole u a (highSide level a)
+  sides-of u s d m =
+      sides-whole u level a (dvd-of-mod-eq-zero u s)
+      (afresh-so (λ (n : ℕ). u ∣ n) (dvd-of-mod-eq-zero u d) (dvd-of-mod-eq-zero u m) level)
       (omega (arith, size-least level l))
       is
 
-  -- and of 64 at each level before the finest
-  pub sides-64 : level < finestLevel → Whole 64 a (highSide level a)
-  sides-64 coarser =
-      sides-whole 64 level a (dvd-of-mod-eq-zero 64 (size-even level (l .coarsest) coarser))
-      (afresh-so (λ (n : ℕ). 64 ∣ n) (dvd-of-mod-eq-zero 64 refl) (dvd-of-mod-eq-zero 64 refl) level)
-      (omega (arith, size-least level l))
-      is
+  -- so of the smallest size, and apart by at least as much
+  pub sides-smallest : Whole smallestSize a (highSide level a)
+  sides-smallest = sides-of smallestSize (size-whole level l) refl refl
 
--- A reference between two sides, a cell of the finest level or more below the high one
+  -- up to the location cell's level of that cell's size
+  sides-located : level ≤ locationLevel → Whole locationSize a (highSide level a)
+  sides-located h = sides-of locationSize (size-located level (l .coarsest) h) refl refl
+
+  -- and before it of twice that
+  sides-even : level < locationLevel → Whole (2 * locationSize) a (highSide level a)
+  sides-even h = sides-of (2 * locationSize) (size-even level (l .coarsest) h) refl refl
+
+-- A reference between two sides, the location cell's size or more below the high one
 pub record Reference (a b r : ℕ) : Type 0 where
   pub low : a ≤ r
-  pub high : r + smallestSize ≤ b
-  pub whole : r % smallestSize ≡ 0
+  pub high : r + locationSize ≤ b
+  pub whole : r % locationSize ≡ 0
 
 -- The location cell lies in its cell, in each direction
 pub record Located (c l : Cell) : Type 0 where
@@ -138,34 +143,35 @@ pub record Located (c l : Cell) : Type 0 where
 
 pub located : (c : Cell) → IsCell c → Located c (locationCell c)
 unfolding locationCell centreOf sidesOf
-located c is = at (eqb (c .level) finestLevel) refl
+located c is = at (eqb (c .level) locationLevel) refl
   where
-    same : {a b : ℕ} → Whole smallestSize a b → Reference a b a
+    same : {a b : ℕ} → Whole locationSize a b → Reference a b a
     same w = omega arith
 
-    half : {a b : ℕ} → Whole 64 a b → Reference a b ((a + b) / 2 - 32)
+    half : {a b : ℕ} → Whole (2 * locationSize) a b → Reference a b ((a + b) / 2 - locationSize)
     half {a} {b} w =
-        let middle : (a + b) / 2 ≡ (a / 64 + b / 64) * 32 = omega arith in
-        let less : (a + b) / 2 - 32 ≡ (a / 64 + b / 64 - 1) * 32 = omega arith in
+        let middle : (a + b) / 2 ≡ (a / (2 * locationSize) + b / (2 * locationSize)) * locationSize = omega arith in
+        let less : (a + b) / 2 - locationSize ≡ (a / (2 * locationSize) + b / (2 * locationSize) - 1) * locationSize = omega arith in
         record { low = omega arith; high = omega arith; whole = omega arith }
 
     middle : Cell
     middle = record {
-      level = finestLevel;
-      west = lon (centreOf (sidesOf c) .lon .0 - smallestSize);
-      south = lat (centreOf (sidesOf c) .lat .0 - smallestSize);
+      level = locationLevel;
+      west = lon (centreOf (sidesOf c) .lon .0 - locationSize);
+      south = lat (centreOf (sidesOf c) .lat .0 - locationSize);
     }
 
-    at : (b : Bool) → eqb (c .level) finestLevel ≡ b → Located c (cond b c middle)
+    at : (b : Bool) → eqb (c .level) locationLevel ≡ b → Located c (cond b c middle)
     at true e =
+        let here : c .level ≤ locationLevel = omega (arith, eqb-true (c .level) locationLevel e) in
         record {
-          lat = same (sides-32 (c .level) (is .level) (is .south));
-          lon = same (sides-32 (c .level) (is .level) (is .west));
+          lat = same (sides-located (c .level) (is .level) (is .south) here);
+          lon = same (sides-located (c .level) (is .level) (is .west) here);
         }
     at false e =
-        let other : c .level ≢ finestLevel = eqb-false (c .level) finestLevel e in
-        let coarser : c .level < finestLevel = omega (arith, is .level .finest) in
+        let other : c .level ≢ locationLevel = eqb-false (c .level) locationLevel e in
+        let coarser : c .level < locationLevel = omega (arith, is .level .finest) in
         record {
-          lat = half (sides-64 (c .level) (is .level) (is .south) coarser);
-          lon = half (sides-64 (c .level) (is .level) (is .west) coarser);
+          lat = half (sides-even (c .level) (is .level) (is .south) coarser);
+          lon = half (sides-even (c .level) (is .level) (is .west) coarser);
         }

@@ -13,7 +13,7 @@ use Rattle.ground.specs.declared.Lat.{Lat}
 use Rattle.ground.specs.declared.Lon.{Lon}
 use Rattle.ground.specs.declared.Rectangle.{Rectangle}
 use Rattle.ground.specs.Levels.{coarsestLevel, finestLevel, IsLevel, sizeOf}
-use Rattle.ground.specs.LevelsLaws.{at-coarser}
+use Rattle.ground.specs.LevelsLaws.{at-level}
 use Rattle.ground.specs.Rectangles.{southOf, northOf, westOf, eastOf}
 use Rattle.ground.specs.Cells.{afresh, startOf, lowSide, highSide}
 use Rattle.ground.specs.CellsLaws.{low-below-high}
@@ -44,7 +44,7 @@ renews level =
 -- Each level before the finest is followed in one of both ways, as the table of sizes tells
 followed : (level : ℕ) → coarsestLevel ≤ level → level < finestLevel → T (cond (halvesSize level) true (renews level))
 unfolding sizeOf afresh
-followed level low high = at-coarser (λ l. cond (halvesSize l) true (renews l)) tt level low high
+followed level low high = at-level (λ l. cond (halvesSize l) true (renews l)) finestLevel tt level low high
 
 -- so that one of both holds
 next : (level : ℕ) → coarsestLevel ≤ level → level < finestLevel → HalvesSize level ⊎ Renews level
@@ -257,7 +257,7 @@ split level at d l is js = by (leb at d) refl
 narrow-next : (level : ℕ) → coarsestLevel ≤ level → level < finestLevel → narrowest (level + 1) ≤ narrowest level
 unfolding narrowest sizeOf afresh
 narrow-next level low high =
-    leb→le (narrowest (level + 1)) (narrowest level) (at-coarser (λ n. leb (narrowest (n + 1)) (narrowest n)) tt level low high)
+    leb→le (narrowest (level + 1)) (narrowest level) (at-level (λ n. leb (narrowest (n + 1)) (narrowest n)) finestLevel tt level low high)
 
 -- nor are those of each finer one
 pub narrow-finer : (level finer : ℕ) → coarsestLevel ≤ level → level ≤ finer → finer ≤ finestLevel → narrowest finer ≤ narrowest level

@@ -39,9 +39,13 @@ coarsestLevel = 9
 abbrev pub finestLevel : ℕ
 finestLevel = 27
 
--- in turn
+-- in turn, those before one
+abbrev pub levelsBefore : ℕ → List ℕ
+levelsBefore level = countUp (level - coarsestLevel) coarsestLevel
+
+-- and all
 abbrev pub levels : List ℕ
-levels = countUp (suc (finestLevel - coarsestLevel)) coarsestLevel
+levels = levelsBefore (suc finestLevel)
 
 pub record IsLevel (level : ℕ) : Type 0 where
   pub coarsest : coarsestLevel ≤ level
@@ -55,13 +59,20 @@ sizes =
     ∷ 65536 ∷ 32768 ∷ 16384 ∷ 8192 ∷ 4096 ∷ 2048
     ∷ 1024 ∷ 512 ∷ 256 ∷ 128 ∷ 64 ∷ 32 ∷ []
 
+-- the smallest of them, that of the finest level
+abbrev pub smallestSize : ℕ
+smallestSize = 32
+
 -- the level of a minute, the last whose cells start afresh at each degree
 abbrev pub minuteLevel : ℕ
 minuteLevel = 15
 
--- the smallest of them
-abbrev pub smallestSize : ℕ
-smallestSize = 32
+-- The location cell is of level 27, which is 32 u, whatever the finest level is
+abbrev pub locationLevel : ℕ
+locationLevel = 27
+
+abbrev pub locationSize : ℕ
+locationSize = 32
 
 -- The nominal size of a level, 0 for what is no level from 9 to 27
 unfoldable pub sizeOf : ℕ → ℕ

@@ -8,19 +8,33 @@ use mathlib.Core.Bool.{Bool, cond}
 use lib.Dec.{T, leb, ltb, eqb, leb→le, eqb→eq}
 use lib.ListN.{List·getD-eq-default}
 use borrow.Author.Tests.{lt-ltb, le-ltb}
-use Rattle.facts.specs.Lists.{countUp, count-all, every, every-in}
-use Rattle.ground.specs.Levels.{second, minute, degree, coarsestLevel, finestLevel, minuteLevel, IsLevel, levels, sizes, smallestSize, sizeOf}
+use Rattle.facts.specs.Lists.{In, Rising, each-in, count-each, count-rising, count-all, every, every-in}
+use Rattle.ground.specs.Levels.{second, minute, degree, coarsestLevel, finestLevel, levelsBefore, levels, IsLevel, sizes, smallestSize}
+use Rattle.ground.specs.Levels.{minuteLevel, locationLevel, locationSize, sizeOf}
 
--- What a test says of a level, where every level passes it
-pub at-level : (test : ℕ → Bool) → T (every test levels) → (level : ℕ) → IsLevel level → T (test level)
-at-level test t level l =
-    every-in test levels t level (count-all (suc (finestLevel - coarsestLevel)) coarsestLevel level (l .coarsest) (omega (arith, l .finest)))
+-- The levels in turn are the levels
+pub levels-are : (level : ℕ) → In level levels → IsLevel level
+levels-are level m =
+    let count : ℕ = suc finestLevel - coarsestLevel in
+    let h = each-in (λ a. (coarsestLevel ≤ a) × (a < coarsestLevel + count)) levels level (count-each count coarsestLevel) m in
+    record { coarsest = h .0; finest = omega arith }
 
--- and of one before the finest, where each of those does
-pub at-coarser : (test : ℕ → Bool) → T (every test (countUp (finestLevel - coarsestLevel) coarsestLevel)) → (level : ℕ) → coarsestLevel ≤ level
-    → level < finestLevel → T (test level)
-at-coarser test t level low high =
-    every-in test (countUp (finestLevel - coarsestLevel) coarsestLevel) t level (count-all (finestLevel - coarsestLevel) coarsestLevel level low high)
+-- each of them
+pub levels-all : (level : ℕ) → IsLevel level → In level levels
+levels-all level l = count-all (suc finestLevel - coarsestLevel) coarsestLevel level (l .coarsest) (omega (arith, l .finest))
+
+-- and rising
+pub levels-rising : Rising levels
+levels-rising = count-rising (suc finestLevel - coarsestLevel) coarsestLevel
+
+-- What a test says of a level, where each one before an end passes it
+pub at-level : (test : ℕ → Bool) (end : ℕ) → T (every test (levelsBefore end)) → (level : ℕ) → coarsestLevel ≤ level → level < end → T (test level)
+at-level test end t level low high =
+    every-in test (levelsBefore end) t level (count-all (end - coarsestLevel) coarsestLevel level low (omega arith))
+
+-- and where every level does
+at-each : (test : ℕ → Bool) → T (every test levels) → (level : ℕ) → IsLevel level → T (test level)
+at-each test t level l = every-in test levels t level (levels-all level l)
 
 -- What is no level has no size
 pub size-none : (level : ℕ) → (level < coarsestLevel) ⊎ (finestLevel < level) → sizeOf level ≡ 0
@@ -34,6 +48,16 @@ pub size-coarsest : sizeOf coarsestLevel ≡ degree
 unfolding sizeOf
 size-coarsest = refl
 
+-- the finest's is the smallest
+pub size-finest : sizeOf finestLevel ≡ smallestSize
+unfolding sizeOf
+size-finest = refl
+
+-- and the location cell's is its level's
+pub size-location : sizeOf locationLevel ≡ locationSize
+unfolding sizeOf
+size-location = refl
+
 -- A level's size from degree, minute and second by halving (document 02, request 4): a degree at the coarsest; after it 64 minutes, and
 -- after the level of a minute 64 seconds, each halved once for every level
 abbrev byHalving : ℕ → ℕ
@@ -42,10 +66,10 @@ byHalving level =
     (cond (ltb coarsestLevel level) (64 * minute / 2 ^ (level - coarsestLevel)) degree)
 
 module _ (level : ℕ) (l : IsLevel level) where
-  -- is the size in the table
+  -- It is the size in the table
   size-halved : sizeOf level ≡ byHalving level
   unfolding sizeOf
-  size-halved = eqb→eq (sizeOf level) (byHalving level) (at-level (λ n. eqb (sizeOf n) (byHalving n)) tt level l)
+  size-halved = eqb→eq (sizeOf level) (byHalving level) (at-each (λ n. eqb (sizeOf n) (byHalving n)) tt level l)
 
   -- which is so many halves of 64 seconds
   pub size-seconds : minuteLevel < level → sizeOf level ≡ 64 * second / 2 ^ (level - minuteLevel)
@@ -58,27 +82,32 @@ module _ (level : ℕ) (l : IsLevel level) where
   -- A size is at least the smallest and at most a degree
   pub size-least : smallestSize ≤ sizeOf level
   unfolding sizeOf
-  size-least = leb→le smallestSize (sizeOf level) (at-level (λ n. leb smallestSize (sizeOf n)) tt level l)
+  size-least = leb→le smallestSize (sizeOf level) (at-each (λ n. leb smallestSize (sizeOf n)) tt level l)
 
   pub size-most : sizeOf level ≤ degree
   unfolding sizeOf
-  size-most = leb→le (sizeOf level) degree (at-level (λ n. leb (sizeOf n) degree) tt level l)
+  size-most = leb→le (sizeOf level) degree (at-each (λ n. leb (sizeOf n) degree) tt level l)
 
   -- and a multiple of the smallest
   pub size-whole : sizeOf level % smallestSize ≡ 0
   unfolding sizeOf
-  size-whole = eqb→eq (sizeOf level % smallestSize) 0 (at-level (λ n. eqb (sizeOf n % smallestSize) 0) tt level l)
+  size-whole = eqb→eq (sizeOf level % smallestSize) 0 (at-each (λ n. eqb (sizeOf n % smallestSize) 0) tt level l)
 
-module _ (level : ℕ) (low : coarsestLevel ≤ level) (high : level < finestLevel) where
-  -- and of twice that at each level before the finest
-  pub size-even : sizeOf level % (2 * smallestSize) ≡ 0
-  unfolding sizeOf
-  size-even =
-      eqb→eq (sizeOf level % (2 * smallestSize)) 0 (at-coarser (λ n. eqb (sizeOf n % (2 * smallestSize)) 0) tt level low high)
+-- Up to the location cell's level it is a multiple of that cell's size
+pub size-located : (level : ℕ) → coarsestLevel ≤ level → level ≤ locationLevel → sizeOf level % locationSize ≡ 0
+unfolding sizeOf
+size-located level low high =
+    eqb→eq (sizeOf level % locationSize) 0 (at-level (λ n. eqb (sizeOf n % locationSize) 0) (suc locationLevel) tt level low (omega arith))
 
-  -- A level's size is at least 15/8 of the next finer one's
-  pub size-step : sizeOf (suc level) * 15 ≤ sizeOf level * 8
-  unfolding sizeOf
-  size-step =
-      leb→le (sizeOf (suc level) * 15) (sizeOf level * 8)
-      (at-coarser (λ n. leb (sizeOf (suc n) * 15) (sizeOf n * 8)) tt level low high)
+-- and before it of twice that
+pub size-even : (level : ℕ) → coarsestLevel ≤ level → level < locationLevel → sizeOf level % (2 * locationSize) ≡ 0
+unfolding sizeOf
+size-even level low high =
+    eqb→eq (sizeOf level % (2 * locationSize)) 0 (at-level (λ n. eqb (sizeOf n % (2 * locationSize)) 0) locationLevel tt level low high)
+
+-- A level's size is at least 15/8 of the next finer one's
+pub size-step : (level : ℕ) → coarsestLevel ≤ level → level < finestLevel → sizeOf (suc level) * 15 ≤ sizeOf level * 8
+unfolding sizeOf
+size-step level low high =
+    leb→le (sizeOf (suc level) * 15) (sizeOf level * 8)
+    (at-level (λ n. leb (sizeOf (suc n) * 15) (sizeOf n * 8)) finestLevel tt level low high)

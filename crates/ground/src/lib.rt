@@ -36,8 +36,10 @@ pub const FINEST: u32 = 27;
 // The level whose size is a minute, the last that starts afresh at each degree.
 const MINUTE_LEVEL: u32 = 15;
 
-// The smallest nominal size, that of the finest level.
-pub const SMALLEST: u32 = 32;
+// The level of the location cell, and its size.
+pub const LOCATION_LEVEL: u32 = 27;
+
+pub const LOCATION_SIZE: u32 = 32;
 
 // A latitude in u, north of the equator. It, a longitude, a point and a rectangle are laid out as in C,
 // so that callers in other languages can have them.

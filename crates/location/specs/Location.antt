@@ -1,7 +1,7 @@
 -- The location's bits (document 01, "Location, 11 characters"). Bits stand as numbers, high first. Assumes nothing.
 use Prim.Native.Nat.{ℕ, zero, suc, _+_, _*_, _/_, _%_, _^_}
 use Rattle.ground.specs.declared.Point.{Point}
-use Rattle.ground.specs.Levels.{lat, lon, degree, minute, second, smallestSize}
+use Rattle.ground.specs.Levels.{lat, lon, degree, minute, second, locationSize}
 
 -- An angle's degrees, minutes, seconds and 64ths of a second
 abbrev pub degrees : ℕ → ℕ
@@ -14,9 +14,13 @@ abbrev pub seconds : ℕ → ℕ
 seconds a = a % minute / second
 
 abbrev pub sixtyFourths : ℕ → ℕ
-sixtyFourths a = a % second / smallestSize
+sixtyFourths a = a % second / locationSize
 
--- For each direction 27 bits: 9 for degrees, 6 for minutes, 6 for seconds, 6 for 64ths of a second
+-- For each direction 27 bits
+abbrev pub directionBits : ℕ
+directionBits = 27
+
+-- 9 for degrees, 6 for minutes, 6 for seconds, 6 for 64ths of a second
 unfoldable pub bitsOf : ℕ → ℕ
 bitsOf a = ((degrees a * 64 + minutes a) * 64 + seconds a) * 64 + sixtyFourths a
 
@@ -38,7 +42,7 @@ hemisphereIn bits = bits / 2 ^ 26
 
 -- The angle that 27 bits tell
 unfoldable pub angleIn : ℕ → ℕ
-angleIn bits = degreesIn bits * degree + minutesIn bits * minute + secondsIn bits * second + sixtyFourthsIn bits * smallestSize
+angleIn bits = degreesIn bits * degree + minutesIn bits * minute + secondsIn bits * second + sixtyFourthsIn bits * locationSize
 
 -- The last n bits of two numbers, paired, the first's before the second's
 unfoldable pub paired : ℕ → ℕ → ℕ → ℕ
@@ -56,14 +60,14 @@ formers n x = latters n (x / 2)
 
 -- Bits are paired, latitude first, into 54; a 1 is added at the end
 unfoldable pub locationOf : Point → ℕ
-locationOf p = paired 27 (bitsOf (p .lat .0)) (bitsOf (p .lon .0)) * 2 + 1
+locationOf p = paired directionBits (bitsOf (p .lat .0)) (bitsOf (p .lon .0)) * 2 + 1
 
 -- The same 27 bits of each direction in a location, whose last bit closes it
 abbrev pub latIn : ℕ → ℕ
-latIn location = formers 27 (location / 2)
+latIn location = formers directionBits (location / 2)
 
 abbrev pub lonIn : ℕ → ℕ
-lonIn location = latters 27 (location / 2)
+lonIn location = latters directionBits (location / 2)
 
 -- The reference that a location tells
 abbrev pub referenceIn : ℕ → Point

@@ -7,8 +7,9 @@ use mathlib.Core.Path.{_≡_, refl, ap, ap₂, _∙_, sym, subst}
 use lib.Arith.{mod-mul, digits-mod}
 use lib.Dec.{lit<}
 use Rattle.ground.specs.declared.Point.{Point}
-use Rattle.ground.specs.Levels.{lat, lon, degree, minute, second, smallestSize}
+use Rattle.ground.specs.Levels.{lat, lon, degree, minute, second, locationSize}
 use Rattle.location.specs.Location.{
+  directionBits,
   degrees,
   minutes,
   seconds,
@@ -57,7 +58,7 @@ latters-split m (suc n) x =
     rw (add-suc m n, deep) (rw pow-suc (omega (arith, latters-split m n (x / 4))))
 
 -- Of at most 27 bits each, what is paired has 54 bits
-pub paired-below : (n a b : ℕ) {r : ℕ} → r ≡ paired n a b → n ≤ 27 → r < 2 ^ 54
+pub paired-below : (n a b : ℕ) {r : ℕ} → r ≡ paired n a b → n ≤ directionBits → r < 2 ^ 54
 paired-below n a b e h = omega (arith, paired-most n a b, pow-le-pow-right {n = 4} (omega arith) h)
 
 -- Paired bits are taken apart again
@@ -117,13 +118,13 @@ tells-parts d m s f hm hs hf =
     }
 
 -- An angle put together from parts has them
-has-parts : (d m s f : ℕ) → m < 60 → s < 60 → f < 64 → Has (d * degree + m * minute + s * second + f * smallestSize) d m s f
+has-parts : (d m s f : ℕ) → m < 60 → s < 60 → f < 64 → Has (d * degree + m * minute + s * second + f * locationSize) d m s f
 has-parts d m s f hm hs hf = record {
   degrees = omega arith;
-  minutes = ap (λ (n : ℕ). n / minute) (rest d degree (m * minute + s * second + f * smallestSize) (omega arith) (omega arith)) ∙ omega arith;
-  seconds = ap (λ (n : ℕ). n / second) (rest (d * 60 + m) minute (s * second + f * smallestSize) (omega arith) (omega arith)) ∙ omega arith;
+  minutes = ap (λ (n : ℕ). n / minute) (rest d degree (m * minute + s * second + f * locationSize) (omega arith) (omega arith)) ∙ omega arith;
+  seconds = ap (λ (n : ℕ). n / second) (rest (d * 60 + m) minute (s * second + f * locationSize) (omega arith) (omega arith)) ∙ omega arith;
   sixtyFourths =
-      ap (λ (n : ℕ). n / smallestSize) (rest ((d * 60 + m) * 60 + s) second (f * smallestSize) (omega arith) (omega arith)) ∙ omega arith;
+      ap (λ (n : ℕ). n / locationSize) (rest ((d * 60 + m) * 60 + s) second (f * locationSize) (omega arith) (omega arith)) ∙ omega arith;
 }
   where
     rest : (q c r : ℕ) {a : ℕ} → a ≡ q * c + r → r < c → a % c ≡ r
@@ -134,13 +135,13 @@ mod-of-mod : (k c a : ℕ) → 0 < k → 0 < c → a % (k * c) % c ≡ a % c
 mod-of-mod k c a hk hc = ap (λ (n : ℕ). n % c) (mod-mul a hk hc) ∙ digits-mod (a / c % k) (mod-lt a hc)
 
 -- An angle that is a multiple of the smallest size is the sum of its parts
-parts-sum : (a : ℕ) → a % smallestSize ≡ 0 → degrees a * degree + minutes a * minute + seconds a * second + sixtyFourths a * smallestSize ≡ a
+parts-sum : (a : ℕ) → a % locationSize ≡ 0 → degrees a * degree + minutes a * minute + seconds a * second + sixtyFourths a * locationSize ≡ a
 parts-sum a h =
-    sum (degrees a * degree) (minutes a * minute) (seconds a * second) (sixtyFourths a * smallestSize)
+    sum (degrees a * degree) (minutes a * minute) (seconds a * second) (sixtyFourths a * locationSize)
     (div-add-mod' a degree)
     (div-add-mod' (a % degree) minute) (mod-of-mod 60 minute a (lit< tt) (lit< tt))
     (div-add-mod' (a % minute) second) (mod-of-mod 60 second a (lit< tt) (lit< tt))
-    (div-add-mod' (a % second) smallestSize) (mod-of-mod 64 smallestSize a (lit< tt) (lit< tt) ∙ h)
+    (div-add-mod' (a % second) locationSize) (mod-of-mod 64 locationSize a (lit< tt) (lit< tt) ∙ h)
   where
     sum : (d m s f : ℕ) {a1 a2 a3 b2 b3 b4 : ℕ} → d + a1 ≡ a → m + b2 ≡ a1 → b2 ≡ a2 → s + b3 ≡ a2 → b3 ≡ a3 → f + b4 ≡ a3 → b4 ≡ 0
         → d + m + s + f ≡ a
@@ -171,13 +172,13 @@ bits-below a h =
     omega arith
 
 -- The angle that 27 bits of a location tell, whichever they are, is below 2 to the 32
-pub angle-fits : (x : ℕ) {bits angle : ℕ} → bits ≡ latters 27 x → angle ≡ angleIn bits → angle < 2 ^ 32
+pub angle-fits : (x : ℕ) {bits angle : ℕ} → bits ≡ latters directionBits x → angle ≡ angleIn bits → angle < 2 ^ 32
 unfolding angleIn
-angle-fits x h e = omega (arith, latters-most 27 x h)
+angle-fits x h e = omega (arith, latters-most directionBits x h)
 
 -- An angle that a reference can have: a multiple of the smallest size, below its end
 pub record Angle (end a : ℕ) : Type 0 where
-  pub whole : a % smallestSize ≡ 0
+  pub whole : a % locationSize ≡ 0
   pub below : a < end
 
 -- Bits whose degrees are at most so many, minutes and seconds at most 59
@@ -208,11 +209,11 @@ pub told-angle : (most b : ℕ) → Sixtieths most b → Angle ((most + 1) * deg
 unfolding angleIn
 told-angle most b s = record { whole = whole (degreesIn b) (minutesIn b) (secondsIn b) (sixtyFourthsIn b); below = omega arith }
   where
-    whole : (d m s f : ℕ) → (d * degree + m * minute + s * second + f * smallestSize) % smallestSize ≡ 0
+    whole : (d m s f : ℕ) → (d * degree + m * minute + s * second + f * locationSize) % locationSize ≡ 0
     whole d m s f = omega arith
 
 -- The angle of a reference is told by its bits
-bits-back : (a : ℕ) → a % smallestSize ≡ 0 → angleIn (bitsOf a) ≡ a
+bits-back : (a : ℕ) → a % locationSize ≡ 0 → angleIn (bitsOf a) ≡ a
 unfolding angleIn
 bits-back a h =
     let t = bits-tell a in
@@ -228,14 +229,14 @@ angle-back most b k =
 -- A location has 55 bits, and the last is 1
 pub location-below : (p : Point) → locationOf p < 2 ^ 55
 unfolding locationOf
-location-below p = closed (paired-below 27 (bitsOf (p .lat .0)) (bitsOf (p .lon .0)) refl (omega arith))
+location-below p = closed (paired-below directionBits (bitsOf (p .lat .0)) (bitsOf (p .lon .0)) refl (omega arith))
   where
     closed : {n : ℕ} → n < 2 ^ 54 → n * 2 + 1 < 2 ^ 55
     closed h = omega arith
 
 pub location-odd : (p : Point) → locationOf p % 2 ≡ 1
 unfolding locationOf
-location-odd p = odd (paired 27 (bitsOf (p .lat .0)) (bitsOf (p .lon .0)))
+location-odd p = odd (paired directionBits (bitsOf (p .lat .0)) (bitsOf (p .lon .0)))
   where
     odd : (n : ℕ) → (n * 2 + 1) % 2 ≡ 1
     odd n = omega arith
@@ -252,14 +253,14 @@ module _ {south west : ℕ} (p : Point) (lat-angle : Angle south (p .lat .0)) (l
   pub lat-back : latIn (locationOf p) ≡ bitsOf (p .lat .0)
   unfolding locationOf
   lat-back =
-      ap (formers 27) (half (paired 27 (bitsOf (p .lat .0)) (bitsOf (p .lon .0))))
-      ∙ formers-paired 27 (bitsOf (p .lat .0)) (bitsOf (p .lon .0)) (omega (arith, bits-below (p .lat .0) (omega arith)))
+      ap (formers directionBits) (half (paired directionBits (bitsOf (p .lat .0)) (bitsOf (p .lon .0))))
+      ∙ formers-paired directionBits (bitsOf (p .lat .0)) (bitsOf (p .lon .0)) (omega (arith, bits-below (p .lat .0) (omega arith)))
 
   pub lon-back : lonIn (locationOf p) ≡ bitsOf (p .lon .0)
   unfolding locationOf
   lon-back =
-      ap (latters 27) (half (paired 27 (bitsOf (p .lat .0)) (bitsOf (p .lon .0))))
-      ∙ latters-paired 27 (bitsOf (p .lat .0)) (bitsOf (p .lon .0)) (omega (arith, bits-below (p .lon .0) (omega arith)))
+      ap (latters directionBits) (half (paired directionBits (bitsOf (p .lat .0)) (bitsOf (p .lon .0))))
+      ∙ latters-paired directionBits (bitsOf (p .lat .0)) (bitsOf (p .lon .0)) (omega (arith, bits-below (p .lon .0) (omega arith)))
 
   -- and so the reference
   pub reference-back : referenceIn (locationOf p) ≡ p
@@ -273,11 +274,11 @@ pub location-back : (location : ℕ) {most least : ℕ} → location < 2 ^ 55 �
     → Sixtieths least (lonIn location) → locationOf (referenceIn location) ≡ location
 unfolding locationOf
 location-back location {most} {least} below odd south west =
-    ap₂ (λ (x y : ℕ). paired 27 x y * 2 + 1) (angle-back most (latIn location) south) (angle-back least (lonIn location) west)
-    ∙ ap (λ (n : ℕ). n * 2 + 1) (paired-back 27 (location / 2) (halved below))
+    ap₂ (λ (x y : ℕ). paired directionBits x y * 2 + 1) (angle-back most (latIn location) south) (angle-back least (lonIn location) west)
+    ∙ ap (λ (n : ℕ). n * 2 + 1) (paired-back directionBits (location / 2) (halved below))
     ∙ doubled location odd
   where
-    halved : {n : ℕ} → n < 2 ^ 55 → n / 2 < 4 ^ 27
+    halved : {n : ℕ} → n < 2 ^ 55 → n / 2 < 4 ^ directionBits
     halved h = omega arith
 
     doubled : (n : ℕ) → n % 2 ≡ 1 → n / 2 * 2 + 1 ≡ n

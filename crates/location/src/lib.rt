@@ -2,17 +2,20 @@
 // that they tell.
 ghost use mathlib.Core.Path.{_≡_};
 ghost use Prim.Native.Nat.{_≤_};
-ghost use Rattle.location.specs.Location.{bitsOf, angleIn, paired, latters, locationOf, latIn, lonIn, referenceIn};
+ghost use Rattle.location.specs.Location.{directionBits, bitsOf, angleIn, paired, latters, locationOf, latIn, lonIn, referenceIn};
 use ground::Lat;
 use ground::Lon;
 use ground::Point;
 
-// A degree, a minute and the smallest size in 64 bits, which the angle of any bits may need.
+// A degree, a minute and the location cell's size in 64 bits, which the angle of any bits may need.
 const DEGREE: u64 = ground::DEGREE as u64;
 
 const MINUTE: u64 = ground::MINUTE as u64;
 
-const SMALLEST: u64 = ground::SMALLEST as u64;
+const LOCATION_SIZE: u64 = ground::LOCATION_SIZE as u64;
+
+// So many bits for each direction.
+const DIRECTION_BITS: u32 = 27;
 
 // The 27 bits of an angle.
 fn bits_of(angle: u32) -> u32
@@ -21,7 +24,7 @@ fn bits_of(angle: u32) -> u32
     let degrees = angle / ground::DEGREE;
     let minutes = angle % ground::DEGREE / ground::MINUTE;
     let seconds = angle % ground::MINUTE / 2048;
-    ((degrees * 64 + minutes) * 64 + seconds) * 64 + angle % 2048 / ground::SMALLEST
+    ((degrees * 64 + minutes) * 64 + seconds) * 64 + angle % 2048 / ground::LOCATION_SIZE
 }
 
 // The angle that 27 bits tell.
@@ -32,12 +35,12 @@ fn angle_in(bits: u32) -> u64
     let minutes = (bits / 4096 % 64) as u64;
     let seconds = (bits / 64 % 64) as u64;
     let last = (bits % 64) as u64;
-    degrees * DEGREE + minutes * MINUTE + seconds * 2048 + last * SMALLEST
+    degrees * DEGREE + minutes * MINUTE + seconds * 2048 + last * LOCATION_SIZE
 }
 
 // The last n bits of two numbers, paired.
 fn pair(n: u32, a: u32, b: u32) -> u64
-    requires { ⌜ n ≤ 27 ⌝ }
+    requires { ⌜ n ≤ directionBits ⌝ }
     ensures { λ r. ⌜ r ≡ paired n a b ⌝ }
 {
     if n == 0 {
@@ -62,7 +65,7 @@ fn latter_nine(x: u64) -> u32
 
 // The same of the last 27, nine at a time.
 fn unpair(x: u64) -> u32
-    ensures { λ r. ⌜ r ≡ latters 27 x ⌝ }
+    ensures { λ r. ⌜ r ≡ latters directionBits x ⌝ }
 {
     latter_nine(x / 68719476736) * 262144 + latter_nine(x / 262144) * 512 + latter_nine(x)
 }
@@ -71,7 +74,7 @@ fn unpair(x: u64) -> u32
 pub fn location_of(p: Point) -> u64
     ensures { λ r. ⌜ r ≡ locationOf p ⌝ }
 {
-    pair(27, bits_of(p.lat.0), bits_of(p.lon.0)) * 2 + 1
+    pair(DIRECTION_BITS, bits_of(p.lat.0), bits_of(p.lon.0)) * 2 + 1
 }
 
 // The latitude's 27 bits of a location's 55.

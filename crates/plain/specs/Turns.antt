@@ -6,9 +6,9 @@ use mathlib.Core.Path.{_≡_, refl, ap, subst, sym, _∙_}
 use mathlib.Core.Bool.{Bool, true, false}
 use mathlib.Core.List.{[], _∷_}
 use borrow.Author.Tests.{lt-ltb, le-ltb}
-use Rattle.ground.specs.Levels.{coarsestLevel, finestLevel, IsLevel, smallestSize}
+use Rattle.ground.specs.Levels.{coarsestLevel, finestLevel, levels, IsLevel, smallestSize}
 use Rattle.ground.specs.Cells.{lowSide, highSide}
-use Rattle.ground.specs.CellsLaws.{sides-32}
+use Rattle.ground.specs.CellsLaws.{sides-smallest}
 use Rattle.ground.specs.SidesLaws.{low-low, below-high, high-low}
 use Rattle.ground.specs.declared.Cell.{Cell}
 use Rattle.chosen.specs.declared.Choice.{Choice}
@@ -71,11 +71,11 @@ module _ {try : ℕ → Choice} {level : ℕ} (l : IsLevel level) where
             record {
               more = 0;
               same = k ∙ sym (ap (firstAmong try) (sides-none 0 level (highSide level a) end (omega arith)));
-              enough = omega (arith, sides-32 level l next .apart);
+              enough = omega (arith, sides-smallest level l next .apart);
               is = next;
             }
         at (suc n) k enough =
-            record { more = n; same = k; enough = omega (arith, sides-32 level l next .apart); is = next }
+            record { more = n; same = k; enough = omega (arith, sides-smallest level l next .apart); is = next }
 
     -- At the end nothing was found
     pub sides-end : end ≤ a → whole ≡ Nowhere
@@ -88,7 +88,7 @@ pub record LevelsLeft (try : ℕ → Choice) (whole : Choice) (level : ℕ) : Ty
   pub same : whole ≡ firstAmong try (countUp (finestLevel + 1 - level) level)
 
 -- At first all levels are
-pub levels-begin : (try : ℕ → Choice) → LevelsLeft try (firstAmong try (countUp 19 coarsestLevel)) coarsestLevel
+pub levels-begin : (try : ℕ → Choice) → LevelsLeft try (firstAmong try levels) coarsestLevel
 levels-begin try = record { least = omega arith; most = omega arith; same = refl }
 
 module _ {try : ℕ → Choice} {whole : Choice} {level : ℕ} (s : LevelsLeft try whole level) where

@@ -48,7 +48,7 @@ fn fields_in(location: u64, rest: u64) -> Fields
 fn read_fields(f: Fields) -> Reading
     ensures { λ r. ⌜ tells r ≡ toldWhere (run (spanChecks f)) f ⌝ }
 {
-    if code::outside(14, ground::FINEST, f.scale) {
+    if code::outside(14, code::FINEST_SCALE, f.scale) {
         return Reading::Scale;
     }
     if short_span(f) {

@@ -7,9 +7,10 @@ use mathlib.Core.Logic.{_⊎_, inl, inr}
 use mathlib.Core.Bool.{Bool, true, false, cond}
 use lib.Dec.{ltb}
 use borrow.Author.Tests.{ltb-true, ltb-false}
-use Rattle.ground.specs.Levels.{degree, coarsestLevel, finestLevel, IsLevel, sizeOf}
+use Rattle.ground.specs.Levels.{degree, coarsestLevel, IsLevel, sizeOf}
 use Rattle.ground.specs.LevelsLaws.{size-step}
 use Rattle.facts.specs.Numbers.{either-way}
+use Rattle.code.specs.Code.{finestScale}
 use Rattle.unit.specs.Unit.{scaleFrom, scaleOf, coarser}
 
 module _ (span : ℕ) where
@@ -52,13 +53,18 @@ module _ (span : ℕ) where
   pub scale-level : IsLevel (scaleOf span)
   unfolding scaleOf
   scale-level =
-      let from = scale-from (finestLevel - coarsestLevel) in
-      record { coarsest = from .0; finest = from .1 }
+      let from = scale-from (finestScale - coarsestLevel) in
+      record { coarsest = from .0; finest = omega (arith, from .1) }
+
+  -- at most the finest that a scale has
+  scale-finer : scaleOf span ≤ finestScale
+  unfolding scaleOf
+  scale-finer = scale-from (finestScale - coarsestLevel) .1
 
   -- The nominal size of a finer level, times 32, is at most the span
-  pub finer-most : (l : ℕ) → scaleOf span < l → l ≤ finestLevel → sizeOf l * 32 ≤ span
+  pub finer-most : (l : ℕ) → scaleOf span < l → l ≤ finestScale → sizeOf l * 32 ≤ span
   unfolding scaleOf
-  finer-most = scale-finest (finestLevel - coarsestLevel)
+  finer-most = scale-finest (finestScale - coarsestLevel)
 
 -- One level coarser is a level
 pub coarser-level : {level : ℕ} → IsLevel level → IsLevel (coarser level)
@@ -68,15 +74,15 @@ module _ (span : ℕ) (small : span ≤ degree) where
   -- The nominal size of the scale of a span of at most a degree, times 32, is greater than the span
   pub span-below : span < sizeOf (scaleOf span) * 32
   unfolding scaleOf sizeOf
-  span-below = scale-greater span (finestLevel - coarsestLevel) (omega arith)
+  span-below = scale-greater span (finestScale - coarsestLevel) (omega arith)
 
   -- and such a scale is a level from 14 to 27
-  pub scale-written : (14 ≤ scaleOf span) × (scaleOf span ≤ finestLevel)
+  pub scale-written : (14 ≤ scaleOf span) × (scaleOf span ≤ finestScale)
   unfolding sizeOf
   scale-written = at (either-way 14 (scaleOf span))
     where
-      at : (14 ≤ scaleOf span) ⊎ (scaleOf span < 14) → (14 ≤ scaleOf span) × (scaleOf span ≤ finestLevel)
-      at (inl h) = (h, scale-level span .finest)
+      at : (14 ≤ scaleOf span) ⊎ (scaleOf span < 14) → (14 ≤ scaleOf span) × (scaleOf span ≤ finestScale)
+      at (inl h) = (h, scale-finer span)
       at (inr h) = let none : ⊥ = omega (arith, finer-most span 14 h (omega arith)) in absurd none
 
   -- At 14, 30 sizes reach a span of at most a degree

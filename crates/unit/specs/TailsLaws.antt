@@ -11,8 +11,9 @@ use Rattle.facts.specs.Numbers.{either-way}
 use Rattle.facts.specs.Tests.{neither, none-of}
 use Rattle.ground.specs.declared.Point.{Point}
 use Rattle.ground.specs.declared.Rectangle.{Rectangle}
-use Rattle.ground.specs.Levels.{degree, finestLevel}
+use Rattle.ground.specs.Levels.{degree}
 use Rattle.code.specs.declared.Fields.{Fields}
+use Rattle.code.specs.Code.{finestScale}
 use Rattle.unit.specs.Extents.{spanOf}
 use Rattle.unit.specs.Unit.{scaleOf, fieldsAt, above31, coarser, levelOf}
 use Rattle.unit.specs.ScaleLaws.{scale-level, coarser-level, scale-written, reach-14, reach-coarser}
@@ -40,7 +41,7 @@ none-above f m =
 -- A scale that a code can have, and spans of at most 31
 pub record Fits (f : Fields) : Type 0 where
   pub least : 14 ≤ f .scale
-  pub most : f .scale ≤ finestLevel
+  pub most : f .scale ≤ finestScale
   pub spans : SpansMost 31 f
 
 -- From a reference within extents of at most a degree
@@ -63,7 +64,7 @@ module _ {r : Rectangle} {p : Point} (w : ReferenceIn r p) (small : spanOf r ≤
   unfolding fieldsAt levelOf
   one-step = at (above31 (fieldsAt first r number p)) refl (either-way first 14)
     where
-      written : (14 ≤ first) × (first ≤ finestLevel)
+      written : (14 ≤ first) × (first ≤ finestScale)
       written = scale-written (spanOf r) small
 
       at : (b : Bool) → above31 (fieldsAt first r number p) ≡ b → (first ≤ 14) ⊎ (14 < first)

@@ -12,10 +12,10 @@ use Rattle.ground.specs.declared.Point.{Point}
 use Rattle.ground.specs.declared.Rectangle.{Rectangle}
 use Rattle.ground.specs.declared.Cell.{Cell}
 use Rattle.angles.specs.Angles.{distance}
-use Rattle.ground.specs.Levels.{degree, latEnd, lonEnd, coarsestLevel, finestLevel, sizeOf}
+use Rattle.ground.specs.Levels.{degree, latEnd, lonEnd, coarsestLevel, sizeOf}
 use Rattle.ground.specs.Cells.{locationCell, cornerOf}
 use Rattle.code.specs.declared.Fields.{Fields}
-use Rattle.code.specs.Code.{outside, codeOf}
+use Rattle.code.specs.Code.{outside, finestScale, codeOf}
 use Rattle.unit.specs.declared.Kind.{Kind}
 use Rattle.unit.specs.declared.Kind.the-variants.{Building, Other}
 use Rattle.chosen.specs.declared.Choice.{Choice}
@@ -35,7 +35,7 @@ scaleFrom span (suc n) =
 
 -- Scale: L is the finest level, at most 27, whose nominal size times 32 is greater than Span
 unfoldable pub scaleOf : ℕ → ℕ
-scaleOf span = scaleFrom span (finestLevel - coarsestLevel)
+scaleOf span = scaleFrom span (finestScale - coarsestLevel)
 
 -- A distance, divided by s and rounded up, plus 1
 abbrev pub spanCells : ℕ → ℕ → ℕ

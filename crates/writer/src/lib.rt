@@ -11,7 +11,7 @@ use ground::Point;
 fn no_reference(angle: u32, end: u32) -> bool
     ensures { λ r. ⌜ r ≡ noReference angle end ⌝ }
 {
-    angle % ground::SMALLEST != 0 || end <= angle
+    angle % ground::LOCATION_SIZE != 0 || end <= angle
 }
 
 // Whether a point is no reference that a code can have.
@@ -50,7 +50,7 @@ fn checks(f: Fields) -> Written
     if no_point(f.reference) {
         return Written::Reference;
     }
-    if code::outside(14, ground::FINEST, f.scale) {
+    if code::outside(14, code::FINEST_SCALE, f.scale) {
         return Written::Scale;
     }
     if no_spans(f) {

@@ -3,7 +3,7 @@ use Prim.Native.Nat.{_≤_}
 use native.Mathlib.Omega.{arith}
 use mathlib.Core.Path.{_≡_, sym, _∙_}
 use borrow.Author.Tests.{le-leb, lt-leb, not-true, not-false}
-use Rattle.ground.specs.Levels.{latEnd, lonEnd}
+use Rattle.ground.specs.Levels.{latEnd, lonEnd, coarsestLevel, finestLevel}
 use Rattle.ground.specs.Cells.{highSide, sidesOf, isSide, isCell, sidesFound}
 use Rattle.ground.specs.CellsLaws.{side-ends}
 use borrow.Author.Needs.{needs}
@@ -29,20 +29,20 @@ so-far c =
     let c2 = c .before .before in
     let level = c2 .before .before .before .before .args .c .level in
     rw (
-      le-leb 9 level (c2 .before .if1 .left),
-      le-leb level 27 (c2 .if2 .left),
+      le-leb coarsestLevel level (c2 .before .if1 .left),
+      le-leb level finestLevel (c2 .if2 .left),
       sym (c .before .is-side .ensures) ∙ not-false _ (c .if3 .left),
     )
 
 returns : tie.Need-returns
 unfolding sidesFound isCell
-returns c = rw (lt-leb 9 (c .before .before .before .args .c .level) (c .if1 .taken))
+returns c = rw (lt-leb coarsestLevel (c .before .before .before .args .c .level) (c .if1 .taken))
 
 returns-2 : tie.Need-returns-2
 unfolding sidesFound isCell
 returns-2 c =
     let level = c .before .before .before .before .args .c .level in
-    rw (le-leb 9 level (c .before .if1 .left), lt-leb level 27 (c .if2 .taken))
+    rw (le-leb coarsestLevel level (c .before .if1 .left), lt-leb level finestLevel (c .if2 .taken))
 
 is-side-requires : tie.Need-is-side-requires
 is-side-requires c κs = search needs
@@ -52,7 +52,7 @@ unfolding sidesFound isCell
 returns-3 c =
     let c2 = c .before .before in
     let level = c2 .before .before .before .before .args .c .level in
-    rw (le-leb 9 level (c2 .before .if1 .left), le-leb level 27 (c2 .if2 .left), sym (c .before .is-side .ensures) ∙ not-true _ (c .if3 .taken))
+    rw (le-leb coarsestLevel level (c2 .before .if1 .left), le-leb level finestLevel (c2 .if2 .left), sym (c .before .is-side .ensures) ∙ not-true _ (c .if3 .taken))
 
 is-side-requires-2 : tie.Need-is-side-requires-2
 is-side-requires-2 c κs = search needs

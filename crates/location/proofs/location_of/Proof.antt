@@ -1,6 +1,6 @@
 -- `location::location_of` meets its contract. Assumes nothing.
 use native.Mathlib.Omega.{arith}
-use Rattle.location.specs.Location.{locationOf}
+use Rattle.location.specs.Location.{directionBits, locationOf}
 use Rattle.location.specs.LocationLaws.{paired-below}
 use borrow.Author.Needs.{needs}
 use Rattle.location.proofs.location_of.Statement.{statement}
@@ -16,10 +16,10 @@ pair-requires : tie.Need-pair-requires
 pair-requires c κs = search needs
 
 mul-result : tie.Need-mul-result
-mul-result c = omega (arith, paired-below 27 _ _ (c .pair .ensures) (omega arith))
+mul-result c = omega (arith, paired-below directionBits _ _ (c .pair .ensures) (omega arith))
 
 add-result : tie.Need-add-result
-add-result c = omega (arith, paired-below 27 _ _ (c .pair .ensures) (omega arith))
+add-result c = omega (arith, paired-below directionBits _ _ (c .pair .ensures) (omega arith))
 
 returns : tie.Need-returns
 unfolding locationOf

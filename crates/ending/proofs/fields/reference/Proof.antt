@@ -1,17 +1,17 @@
--- `ending::fields::reference` meets its contract: the cell's own corner at the finest level, else its centre less the smallest size. Assumes nothing.
+-- `ending::fields::reference` meets its contract: the cell's own corner at the location cell's level, else its centre less that level's size. Assumes nothing.
 use mathlib.Core.Path.{ap, ap₂, _∙_}
 use borrow.Author.Tests.{ne-eqb}
 use Prim.Native.Nat.{ℕ}
 use Rattle.ground.specs.declared.Point.{Point}
 use Rattle.ground.specs.Rectangles.{centreOf}
-use Rattle.ground.specs.Levels.{lat, lon, finestLevel}
-use Rattle.ending.specs.FieldsLaws.{reference-finest, reference-centre}
+use Rattle.ground.specs.Levels.{lat, lon, locationLevel}
+use Rattle.ending.specs.FieldsLaws.{reference-own, reference-centre}
 use borrow.Author.Needs.{needs}
 use Rattle.ending.proofs.fields.reference.Statement.{statement}
 use Rattle.ending.proofs.fields.reference.Tie as tie
 
 returns : tie.Need-returns
-returns c = reference-finest (c .before .before .before .before .args .c) (c .if1 .taken)
+returns c = reference-own (c .before .before .before .before .args .c) (c .if1 .taken)
 
 centre-requires : tie.Need-centre-requires
 centre-requires c κs = search needs
@@ -28,7 +28,7 @@ returns-2 c =
     let a = ce .before .before .before .before .before .args in
     let at : ℕ → ℕ → Point = λ x y. record { lat = lat x; lon = lon y } in
     ap₂ at (c .before .less .ensures) (c .less2 .ensures)
-    ∙ reference-centre (a .c) (ne-eqb (a .c .level) finestLevel (ce .before .if1 .left))
+    ∙ reference-centre (a .c) (ne-eqb (a .c .level) locationLevel (ce .before .if1 .left))
     (ce .centre .ensures ∙ ap centreOf (ce .before .before .before .before .before .pre))
 
 pub reference-spec : {M : Type 1} → statement M

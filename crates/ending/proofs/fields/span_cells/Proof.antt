@@ -1,7 +1,8 @@
 -- `ending::fields::span_cells` meets its contract: a size that is not below the smallest keeps the quotient small. Assumes nothing.
-use Prim.Native.Nat.{_+_, _-_, _/_, _≤_}
+use Prim.Native.Nat.{_+_, _-_, _/_, _^_, _≤_}
 use native.Mathlib.Omega.{arith}
 use mathlib.Core.Path.{ap}
+use Rattle.ground.specs.Levels.{smallestSize}
 use Rattle.unit.specs.Unit.{spanCells}
 use Rattle.ending.specs.FieldsLaws.{cells-most}
 use borrow.Author.Needs.{needs}
@@ -24,7 +25,7 @@ div-result : tie.Need-div-result
 div-result c = search needs
 
 -- the quotient is small
-few : (c : tie.After-apart) → (c .apart .result + (c .before .args .s - 1)) / c .before .args .s ≤ 268435456
+few : (c : tie.After-apart) → (c .apart .result + (c .before .args .s - 1)) / c .before .args .s ≤ 2 ^ 33 / smallestSize
 few c = cells-most (c .before .args .s) (c .apart .result) (search needs) (search needs) (search needs)
 
 add-result-2 : tie.Need-add-result-2
