@@ -15,17 +15,18 @@
 
 namespace {
 
-constexpr std::int32_t degree = 7372800, minute = 122880, step = 32;
+constexpr std::int32_t degree = 7372800, minute = 122880, second = 2048, step = 32;
 constexpr std::int32_t lat_end = 90 * degree, lon_end = 180 * degree;
-constexpr int coarsest = 9, finest = 27;
-constexpr std::int32_t sizes[] = {7372800, 3932160, 1966080, 983040, 491520, 245760, 122880,
-                                  65536,   32768,   16384,   8192,   4096,   2048,
-                                  1024,    512,     256,     128,    64,     32};
+constexpr int coarsest = 9, minute_level = 15, finest = 27;
 
-std::int32_t size_of(int level) { return sizes[level - coarsest]; }
+// The nominal size of a level: a degree; or 64 minutes or 64 seconds, halved once for each level.
+std::int32_t size_of(int level) {
+    if (level == coarsest) return degree;
+    return level <= minute_level ? (64 * minute) >> (level - coarsest) : (64 * second) >> (level - minute_level);
+}
 
 // The ground after which the cells of a level start afresh.
-std::int32_t afresh(int level) { return level <= 15 ? degree : minute; }
+std::int32_t afresh(int level) { return level <= minute_level ? degree : minute; }
 
 // The shortest side that a cell of the level has: the cut one where cells are cut.
 std::int32_t shortest(int level) {

@@ -39,17 +39,17 @@ coarsestLevel = 9
 abbrev pub finestLevel : ℕ
 finestLevel = 27
 
--- in turn, those before one
-abbrev pub levelsBefore : ℕ → List ℕ
-levelsBefore level = countUp (level - coarsestLevel) coarsestLevel
-
--- and all
-abbrev pub levels : List ℕ
-levels = levelsBefore (suc finestLevel)
-
 pub record IsLevel (level : ℕ) : Type 0 where
   pub coarsest : coarsestLevel ≤ level
   pub finest : level ≤ finestLevel
+
+-- those before a level, in turn
+abbrev pub levelsBefore : ℕ → List ℕ
+levelsBefore level = countUp (level - coarsestLevel) coarsestLevel
+
+-- and all of them
+abbrev pub levels : List ℕ
+levels = levelsBefore (suc finestLevel)
 
 -- Nominal cell sizes in u: level 9, levels 10 to 15, 16 to 21, 22 to 27
 abbrev pub sizes : List ℕ
@@ -63,17 +63,17 @@ sizes =
 abbrev pub smallestSize : ℕ
 smallestSize = 32
 
--- the level of a minute, the last whose cells start afresh at each degree
+-- The nominal size of a level, 0 for what is no level from 9 to 27
+unfoldable pub sizeOf : ℕ → ℕ
+sizeOf level = cond (ltb level coarsestLevel) 0 (getD sizes (level - coarsestLevel) 0)
+
+-- The level of a minute, the last whose cells start afresh at each whole degree
 abbrev pub minuteLevel : ℕ
 minuteLevel = 15
 
--- The location cell is of level 27, which is 32 u, whatever the finest level is
+-- The location cell is of level 27, whatever the finest level is, and its nominal size is 32
 abbrev pub locationLevel : ℕ
 locationLevel = 27
 
 abbrev pub locationSize : ℕ
 locationSize = 32
-
--- The nominal size of a level, 0 for what is no level from 9 to 27
-unfoldable pub sizeOf : ℕ → ℕ
-sizeOf level = cond (ltb level coarsestLevel) 0 (getD sizes (level - coarsestLevel) 0)

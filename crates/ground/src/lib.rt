@@ -21,7 +21,7 @@ pub const DEGREE: u32 = 7372800;
 pub const MINUTE: u32 = 122880;
 
 // A second in u.
-const SECOND: u32 = 2048;
+pub const SECOND: u32 = 2048;
 
 // The ends of the ranges, which are included: 90° and 180°.
 pub const LAT_END: u32 = 663552000;
@@ -73,8 +73,8 @@ pub struct Cell {
     pub south: Lat,
 }
 
-// The nominal size of a level's cells, and 0 for what is no level: a degree at the coarsest; at the levels
-// after it 64 minutes, halved once for each, and after a minute's own 64 seconds, halved so.
+// The nominal size of a level's cells, and 0 for what is no level: a degree at the coarsest; then 64 minutes,
+// halved once for each level, down to a minute; then 64 seconds, halved once for each.
 pub fn size(level: u32) -> u32
     ensures { λ r. ⌜ r ≡ sizeOf level ⌝ }
 {

@@ -7,10 +7,12 @@ use ground::Lat;
 use ground::Lon;
 use ground::Point;
 
-// A degree, a minute and the location cell's size in 64 bits, which the angle of any bits may need.
+// A degree, a minute, a second and the location cell's size in 64 bits, which the angle of any bits may need.
 const DEGREE: u64 = ground::DEGREE as u64;
 
 const MINUTE: u64 = ground::MINUTE as u64;
+
+const SECOND: u64 = ground::SECOND as u64;
 
 const LOCATION_SIZE: u64 = ground::LOCATION_SIZE as u64;
 
@@ -23,8 +25,8 @@ fn bits_of(angle: u32) -> u32
 {
     let degrees = angle / ground::DEGREE;
     let minutes = angle % ground::DEGREE / ground::MINUTE;
-    let seconds = angle % ground::MINUTE / 2048;
-    ((degrees * 64 + minutes) * 64 + seconds) * 64 + angle % 2048 / ground::LOCATION_SIZE
+    let seconds = angle % ground::MINUTE / ground::SECOND;
+    ((degrees * 64 + minutes) * 64 + seconds) * 64 + angle % ground::SECOND / ground::LOCATION_SIZE
 }
 
 // The angle that 27 bits tell.
@@ -35,7 +37,7 @@ fn angle_in(bits: u32) -> u64
     let minutes = (bits / 4096 % 64) as u64;
     let seconds = (bits / 64 % 64) as u64;
     let last = (bits % 64) as u64;
-    degrees * DEGREE + minutes * MINUTE + seconds * 2048 + last * LOCATION_SIZE
+    degrees * DEGREE + minutes * MINUTE + seconds * SECOND + last * LOCATION_SIZE
 }
 
 // The last n bits of two numbers, paired.
