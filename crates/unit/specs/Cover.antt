@@ -104,7 +104,7 @@ module _ {corners : List Point} {number : ℕ} {c : Cell} (p : Passing corners n
 
   is-level : IsLevel level
   unfolding fieldsAt
-  is-level = record { coarsest = omega (arith, fits .least); finest = fits .most }
+  is-level = record { coarsest = omega (arith, fits .least); finest = omega (arith, fits .most) }
 
   -- The fields of the cell are good
   pub fields-good : Good (unitFields corners number c)
