@@ -8,7 +8,8 @@ use lib.ListN.{length}
 use Rattle.replies.specs.Replies.{Said, refused, accepted, Check, check, run, Outcome, outcome}
 use Rattle.ground.specs.declared.Point.{Point}
 use Rattle.ground.specs.declared.Rectangle.{Rectangle}
-use Rattle.ground.specs.Levels.{lat, lon, latEnd, lonEnd, locationSize, sizeOf}
+use Rattle.ground.specs.Levels.{lat, lon, latEnd, lonEnd, sizeOf}
+use Rattle.ground.specs.Cells.{locationSize}
 use Rattle.letters.specs.Digits.{valueOf}
 use Rattle.location.specs.Location.{locationOf, referenceIn, latIn, lonIn, degreesIn, minutesIn, secondsIn, hemisphereIn}
 use Rattle.spelling.specs.Spelling.{spelledBoth, Numbers, numbersIn}
@@ -56,7 +57,7 @@ rectangleOf f = record {
 abbrev pub outside : ℕ → ℕ → ℕ → Bool
 outside least most x = ltb x least || ltb most x
 
--- The finest level that a scale has, whatever the finest level is
+-- A scale is at most 27, whatever the finest level is
 abbrev pub finestScale : ℕ
 finestScale = 27
 

@@ -9,7 +9,8 @@ use borrow.Author.Tests.{ltb-false, leb-false, eqb-true, not-false, eq-eqb, ne-e
 use Rattle.replies.specs.Replies.{Said, refused, accepted, run, outcome}
 use Rattle.replies.specs.RepliesLaws.{Passed, passed, run-append, both-pass}
 use Rattle.facts.specs.Tests.{neither, none-of}
-use Rattle.ground.specs.Levels.{latEnd, lonEnd, locationSize}
+use Rattle.ground.specs.Levels.{latEnd, lonEnd}
+use Rattle.ground.specs.Cells.{locationSize}
 use Rattle.location.specs.LocationLaws.{Angle}
 use Rattle.spelling.specs.Spelling.{spelledBoth}
 use Rattle.code.specs.declared.Fields.{Fields}

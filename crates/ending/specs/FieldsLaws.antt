@@ -10,9 +10,9 @@ use Rattle.ground.specs.declared.Point.{Point}
 use Rattle.ground.specs.declared.Rectangle.{Rectangle}
 use Rattle.ground.specs.declared.Cell.{Cell}
 use Rattle.angles.specs.Angles.{distance}
-use Rattle.ground.specs.Levels.{lat, lon, IsLevel, smallestSize, locationLevel, locationSize, sizeOf}
+use Rattle.ground.specs.Levels.{lat, lon, IsLevel, smallestSize, sizeOf}
 use Rattle.ground.specs.LevelsLaws.{size-least}
-use Rattle.ground.specs.Cells.{sidesOf, locationCell, cornerOf}
+use Rattle.ground.specs.Cells.{sidesOf, locationLevel, locationSize, locationCell, cornerOf}
 use Rattle.ground.specs.Rectangles.{centreOf}
 use Rattle.code.specs.declared.Fields.{Fields}
 use Rattle.unit.specs.Extents.{spanOf}

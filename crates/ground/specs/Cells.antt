@@ -9,8 +9,7 @@ use Rattle.ground.specs.declared.Rectangle.{Rectangle}
 use Rattle.ground.specs.declared.Cell.{Cell}
 use Rattle.ground.specs.declared.cells.Sides.{Sides}
 use Rattle.ground.specs.declared.cells.Sides.the-variants.{Of, NoCell}
-use Rattle.ground.specs.Levels.{lat, lon, degree, minute, latEnd, lonEnd, coarsestLevel, finestLevel, IsLevel, sizeOf}
-use Rattle.ground.specs.Levels.{minuteLevel, locationLevel, locationSize}
+use Rattle.ground.specs.Levels.{lat, lon, degree, minute, latEnd, lonEnd, coarsestLevel, finestLevel, IsLevel, sizeOf, minuteLevel}
 use Rattle.ground.specs.Rectangles.{centreOf}
 
 -- Cells of levels 10 to 15 start afresh at each whole degree, cells of levels 16 and up at each whole minute
@@ -45,6 +44,13 @@ pub record IsCell (c : Cell) : Type 0 where
   pub south : lowSide (c .level) (c .south .0) ≡ c .south .0
   pub east-end : sidesOf c .east .0 ≤ lonEnd
   pub north-end : sidesOf c .north .0 ≤ latEnd
+
+-- The level of the location cell, whatever the finest is, and its nominal size
+abbrev pub locationLevel : ℕ
+locationLevel = 27
+
+abbrev pub locationSize : ℕ
+locationSize = 32
 
 -- The location cell is the level 27 cell whose north-east corner is that centre; for a cell of level 27 it is that cell itself
 unfoldable pub locationCell : Cell → Cell

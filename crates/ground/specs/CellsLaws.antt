@@ -3,19 +3,20 @@
 use Prim.Native.Nat.{ℕ, _+_, _-_, _*_, _/_, _%_, _≤_, _<_, _∣_, min}
 use native.Mathlib.Nat.{dvd-add, dvd-sub, dvd-mul-left-of-dvd, dvd-of-mod-eq-zero, mod-eq-zero-of-dvd, le-of-dvd, lt-div-mul-add}
 use native.Mathlib.Omega.{arith}
-use mathlib.Core.Path.{_≡_, refl, subst}
+use mathlib.Core.Path.{_≡_, refl, ap, subst, _∙_}
 use mathlib.Core.Logic.{_≢_}
 use mathlib.Core.Bool.{Bool, true, false, cond, _&&_, false≢true}
-use lib.Dec.{leb, eqb}
+use lib.Dec.{leb, eqb, eqb→eq}
 use borrow.Author.Tests.{leb-true, leb-false, eqb-true, eqb-false, le-leb, eq-eqb}
 use Rattle.ground.specs.declared.Rectangle.{Rectangle}
 use Rattle.ground.specs.declared.Cell.{Cell}
 use Rattle.ground.specs.declared.cells.Sides.the-variants.{Of, NoCell}
 use Rattle.ground.specs.Levels.{lat, lon, degree, minute, latEnd, lonEnd, coarsestLevel, finestLevel, IsLevel, smallestSize, sizeOf}
-use Rattle.ground.specs.Levels.{minuteLevel, locationLevel, locationSize}
-use Rattle.ground.specs.LevelsLaws.{size-least, size-whole, size-located, size-even}
+use Rattle.ground.specs.Levels.{minuteLevel}
+use Rattle.ground.specs.LevelsLaws.{at-level, size-least, size-whole}
 use Rattle.ground.specs.Rectangles.{Wide, centreOf}
-use Rattle.ground.specs.Cells.{afresh, startOf, lowSide, highSide, sidesOf, IsCell, locationCell, isSide, isCell, sidesFound}
+use Rattle.ground.specs.Cells.{afresh, startOf, lowSide, highSide, sidesOf, IsCell, locationLevel, locationSize, locationCell}
+use Rattle.ground.specs.Cells.{isSide, isCell, sidesFound}
 
 -- A cell's high side is above its low side
 pub low-below-high : (level a : ℕ) → IsLevel level → a < highSide level a
@@ -109,6 +110,17 @@ sides-whole u level a s m h is =
     let apart : u ≤ highSide level a - a = le-of-dvd (omega arith) (dvd-sub u high low) in
     record { low = mod-eq-zero-of-dvd u low; high = mod-eq-zero-of-dvd u high; apart = omega arith }
 
+-- The location cell's size is its level's
+size-location : sizeOf locationLevel ≡ locationSize
+unfolding sizeOf
+size-location = refl
+
+-- and before that level a size is a multiple of twice that
+size-even : (level : ℕ) → coarsestLevel ≤ level → level < locationLevel → sizeOf level % (2 * locationSize) ≡ 0
+unfolding sizeOf
+size-even level low high =
+    eqb→eq (sizeOf level % (2 * locationSize)) 0 (at-level (λ n. eqb (sizeOf n % (2 * locationSize)) 0) locationLevel tt level low high)
+
 module _ (level : ℕ) (l : IsLevel level) {a : ℕ} (is : lowSide level a ≡ a) where
   -- A cell's sides are whole multiples of what its size, a degree and a minute are multiples of
   sides-of : (u : ℕ) → sizeOf level % u ≡ 0 → degree % u ≡ 0 → minute % u ≡ 0 → Whole u a (highSide level a)
@@ -122,9 +134,9 @@ module _ (level : ℕ) (l : IsLevel level) {a : ℕ} (is : lowSide level a ≡ a
   pub sides-smallest : Whole smallestSize a (highSide level a)
   sides-smallest = sides-of smallestSize (size-whole level l) refl refl
 
-  -- up to the location cell's level of that cell's size
-  sides-located : level ≤ locationLevel → Whole locationSize a (highSide level a)
-  sides-located h = sides-of locationSize (size-located level (l .coarsest) h) refl refl
+  -- at the location cell's level of that cell's size
+  sides-located : level ≡ locationLevel → Whole locationSize a (highSide level a)
+  sides-located e = sides-of locationSize (ap (λ (n : ℕ). n % locationSize) (ap sizeOf e ∙ size-location)) refl refl
 
   -- and before it of twice that
   sides-even : level < locationLevel → Whole (2 * locationSize) a (highSide level a)
@@ -163,7 +175,7 @@ located c is = at (eqb (c .level) locationLevel) refl
 
     at : (b : Bool) → eqb (c .level) locationLevel ≡ b → Located c (cond b c middle)
     at true e =
-        let here : c .level ≤ locationLevel = omega (arith, eqb-true (c .level) locationLevel e) in
+        let here : c .level ≡ locationLevel = eqb-true (c .level) locationLevel e in
         record {
           lat = same (sides-located (c .level) (is .level) (is .south) here);
           lon = same (sides-located (c .level) (is .level) (is .west) here);

@@ -70,10 +70,3 @@ sizeOf level = cond (ltb level coarsestLevel) 0 (getD sizes (level - coarsestLev
 -- The level of a minute, the last whose cells start afresh at each whole degree
 abbrev pub minuteLevel : ℕ
 minuteLevel = 15
-
--- The location cell is of level 27, whatever the finest level is, and its nominal size is 32
-abbrev pub locationLevel : ℕ
-locationLevel = 27
-
-abbrev pub locationSize : ℕ
-locationSize = 32

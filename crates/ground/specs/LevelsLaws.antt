@@ -9,8 +9,8 @@ use lib.Dec.{T, leb, ltb, eqb, leb→le, eqb→eq}
 use lib.ListN.{List·getD-eq-default}
 use borrow.Author.Tests.{lt-ltb, le-ltb}
 use Rattle.facts.specs.Lists.{In, Rising, each-in, count-each, count-rising, count-all, every, every-in}
-use Rattle.ground.specs.Levels.{second, minute, degree, coarsestLevel, finestLevel, levelsBefore, levels, IsLevel, sizes, smallestSize}
-use Rattle.ground.specs.Levels.{minuteLevel, locationLevel, locationSize, sizeOf}
+use Rattle.ground.specs.Levels.{second, minute, degree, coarsestLevel, finestLevel, IsLevel, levelsBefore, levels}
+use Rattle.ground.specs.Levels.{sizes, smallestSize, sizeOf, minuteLevel}
 
 -- The levels in turn are the levels
 pub levels-are : (level : ℕ) → In level levels → IsLevel level
@@ -48,15 +48,10 @@ pub size-coarsest : sizeOf coarsestLevel ≡ degree
 unfolding sizeOf
 size-coarsest = refl
 
--- the finest's is the smallest
+-- and the finest's is the smallest
 pub size-finest : sizeOf finestLevel ≡ smallestSize
 unfolding sizeOf
 size-finest = refl
-
--- and the location cell's is its level's
-pub size-location : sizeOf locationLevel ≡ locationSize
-unfolding sizeOf
-size-location = refl
 
 -- A level's size from degree, minute and second by halving (document 02, request 4): a degree at the coarsest; after it 64 minutes, and
 -- after the level of a minute 64 seconds, each halved once for every level
@@ -92,18 +87,6 @@ module _ (level : ℕ) (l : IsLevel level) where
   pub size-whole : sizeOf level % smallestSize ≡ 0
   unfolding sizeOf
   size-whole = eqb→eq (sizeOf level % smallestSize) 0 (at-each (λ n. eqb (sizeOf n % smallestSize) 0) tt level l)
-
--- Up to the location cell's level it is a multiple of that cell's size
-pub size-located : (level : ℕ) → coarsestLevel ≤ level → level ≤ locationLevel → sizeOf level % locationSize ≡ 0
-unfolding sizeOf
-size-located level low high =
-    eqb→eq (sizeOf level % locationSize) 0 (at-level (λ n. eqb (sizeOf n % locationSize) 0) (suc locationLevel) tt level low (omega arith))
-
--- and before it of twice that
-pub size-even : (level : ℕ) → coarsestLevel ≤ level → level < locationLevel → sizeOf level % (2 * locationSize) ≡ 0
-unfolding sizeOf
-size-even level low high =
-    eqb→eq (sizeOf level % (2 * locationSize)) 0 (at-level (λ n. eqb (sizeOf n % (2 * locationSize)) 0) locationLevel tt level low high)
 
 -- A level's size is at least 15/8 of the next finer one's
 pub size-step : (level : ℕ) → coarsestLevel ≤ level → level < finestLevel → sizeOf (suc level) * 15 ≤ sizeOf level * 8

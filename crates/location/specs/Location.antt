@@ -1,7 +1,8 @@
 -- The location's bits (document 01, "Location, 11 characters"). Bits stand as numbers, high first. Assumes nothing.
 use Prim.Native.Nat.{ℕ, zero, suc, _+_, _*_, _/_, _%_, _^_}
 use Rattle.ground.specs.declared.Point.{Point}
-use Rattle.ground.specs.Levels.{lat, lon, degree, minute, second, locationSize}
+use Rattle.ground.specs.Levels.{lat, lon, degree, minute, second}
+use Rattle.ground.specs.Cells.{locationSize}
 
 -- An angle's degrees, minutes, seconds and 64ths of a second
 abbrev pub degrees : ℕ → ℕ

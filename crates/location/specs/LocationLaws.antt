@@ -7,7 +7,8 @@ use mathlib.Core.Path.{_≡_, refl, ap, ap₂, _∙_, sym, subst}
 use lib.Arith.{mod-mul, digits-mod}
 use lib.Dec.{lit<}
 use Rattle.ground.specs.declared.Point.{Point}
-use Rattle.ground.specs.Levels.{lat, lon, degree, minute, second, locationSize}
+use Rattle.ground.specs.Levels.{lat, lon, degree, minute, second}
+use Rattle.ground.specs.Cells.{locationSize}
 use Rattle.location.specs.Location.{
   directionBits,
   degrees,

@@ -49,17 +49,14 @@ module _ (span : ℕ) where
           let same : coarsestLevel + suc n ≡ l = omega arith in
           subst (λ (m : ℕ). sizeOf m * 32 ≤ span) same (ltb-false span (sizeOf (coarsestLevel + suc n) * 32) e)
 
-  -- The scale is a level from 9 to 27
-  pub scale-level : IsLevel (scaleOf span)
+  -- The scale is from 9 to 27
+  scale-most : (coarsestLevel ≤ scaleOf span) × (scaleOf span ≤ finestScale)
   unfolding scaleOf
-  scale-level =
-      let from = scale-from (finestScale - coarsestLevel) in
-      record { coarsest = from .0; finest = omega (arith, from .1) }
+  scale-most = scale-from (finestScale - coarsestLevel)
 
-  -- at most the finest that a scale has
-  scale-finer : scaleOf span ≤ finestScale
-  unfolding scaleOf
-  scale-finer = scale-from (finestScale - coarsestLevel) .1
+  -- so it is a level
+  pub scale-level : IsLevel (scaleOf span)
+  scale-level = record { coarsest = scale-most .0; finest = omega (arith, scale-most) }
 
   -- The nominal size of a finer level, times 32, is at most the span
   pub finer-most : (l : ℕ) → scaleOf span < l → l ≤ finestScale → sizeOf l * 32 ≤ span
@@ -82,7 +79,7 @@ module _ (span : ℕ) (small : span ≤ degree) where
   scale-written = at (either-way 14 (scaleOf span))
     where
       at : (14 ≤ scaleOf span) ⊎ (scaleOf span < 14) → (14 ≤ scaleOf span) × (scaleOf span ≤ finestScale)
-      at (inl h) = (h, scale-finer span)
+      at (inl h) = (h, scale-most span .1)
       at (inr h) = let none : ⊥ = omega (arith, finer-most span 14 h (omega arith)) in absurd none
 
   -- At 14, 30 sizes reach a span of at most a degree

@@ -4,7 +4,8 @@ use borrow.Author.Tests.{ne-eqb}
 use Prim.Native.Nat.{ℕ}
 use Rattle.ground.specs.declared.Point.{Point}
 use Rattle.ground.specs.Rectangles.{centreOf}
-use Rattle.ground.specs.Levels.{lat, lon, locationLevel}
+use Rattle.ground.specs.Levels.{lat, lon}
+use Rattle.ground.specs.Cells.{locationLevel}
 use Rattle.ending.specs.FieldsLaws.{reference-own, reference-centre}
 use borrow.Author.Needs.{needs}
 use Rattle.ending.proofs.fields.reference.Statement.{statement}
