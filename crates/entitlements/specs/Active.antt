@@ -156,7 +156,15 @@ module _ (account : Account) where
   pub free-free : isFull account ≡ false → isFree (account .active) (freePlace account) ≡ true
   free-free e = lowest-passes (isFree (account .active)) (free-within e)
 
-  -- It is full where 256 places are active
+  -- Where it is not, less than 256 are active
+  pub count-below : length (account .active) ≡ places → isFull account ≡ false → countActive (account .active) < places
+  count-below sized e =
+      let i : ℕ = freePlace account in
+      let more = count-taken (account .active) i 1 (omega (arith, free-within e, sized)) (free-free e) refl in
+      let size = length-set (account .active) i 1 in
+      omega (arith, more, size, sized, count-most (set (account .active) i 1))
+
+  -- so it is full where 256 places are
   pub full-count : length (account .active) ≡ places → isFull account ≡ eqb (countActive (account .active)) places
   full-count sized = at (isFull account) refl
     where
@@ -166,9 +174,4 @@ module _ (account : Account) where
           sym
           (eq-eqb (countActive (account .active)) places
           (count-all (account .active) (λ i h. none i (omega (arith, h, sized))) ∙ sized))
-      at false e =
-          let i : ℕ = freePlace account in
-          let more = count-taken (account .active) i 1 (omega (arith, free-within e, sized)) (free-free e) refl in
-          let size = length-set (account .active) i 1 in
-          let below : countActive (account .active) < places = omega (arith, more, size, sized, count-most (set (account .active) i 1)) in
-          sym (ne-eqb (countActive (account .active)) places (λ k. omega (arith, k, below)))
+      at false e = sym (ne-eqb (countActive (account .active)) places (λ k. omega (arith, k, count-below sized e)))

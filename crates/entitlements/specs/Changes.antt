@@ -1,5 +1,5 @@
--- What changes in a sound account when a number is used up, a code takes a place or a code's place is cleared: it stays sound, which
--- codes are active, and how many. Assumes nothing.
+-- What changes in a sound account when a number is used up, a code takes a place or a code's place is cleared: which codes are active,
+-- how many, its total, and that it stays sound. Assumes nothing.
 use Prim.Native.Nat.{ℕ, suc, _≤_, _<_}
 use native.Mathlib.Omega.{arith}
 use native.Mathlib.Decide.{ℕ-discrete}
@@ -9,7 +9,7 @@ use mathlib.Core.Bool.{Bool, true, false, not, _&&_, _||_, true≢false}
 use lib.Dec.{eqb}
 use lib.ListN.{length-set}
 use lib.Seq.{getD-set-same, getD-set-other}
-use borrow.Author.Tests.{ltb-true, not-true}
+use borrow.Author.Tests.{lt-ltb, ltb-true, not-true}
 use Rattle.facts.specs.Tests.{both, fails-left, fails-right}
 use Rattle.halves.specs.declared.Halves.{Halves}
 use Rattle.halves.specs.Halves.{halvesBy, sameCode, isCode}
@@ -25,6 +25,8 @@ use Rattle.entitlements.specs.Entitlements.{
   countActive,
   used,
   putAt,
+  raised,
+  lowered,
   taken,
   zeros,
   cleared,
@@ -41,6 +43,7 @@ use Rattle.entitlements.specs.Active.{
   free-free,
   count-taken,
   count-cleared,
+  count-below,
 }
 use Rattle.entitlements.specs.Sound.{Sized, Sound}
 
@@ -53,14 +56,15 @@ used-sound number h sound = record {
   single = sound .single;
   read = sound .read;
   within = h;
+  counted = sound .counted;
 }
 
 -- ---- another content of a place
 
-module _ (number : ℕ) (account : Account) (p : ℕ) (code : Halves) (on : ℕ) where
-  -- The account with this content of the place, and a number used up
+module _ (number total : ℕ) (account : Account) (p : ℕ) (code : Halves) (on : ℕ) where
+  -- The account with this content of the place, this total, and a number used up
   abbrev placed : Account
-  placed = putAt account p code on number
+  placed = putAt account p code on number total
 
   -- It has as many places
   pub placed-sized : Sized account → Sized placed
@@ -91,14 +95,15 @@ module _ (number : ℕ) (account : Account) (p : ℕ) (code : Halves) (on : ℕ)
   other-holds : (d : Halves) (i : ℕ) → i ≢ p → holdsAt placed d i ≡ holdsAt account d i
   other-holds d i n = ap₂ (λ (a : Bool) (c : Halves). a && sameCode c d) (other-active i n) (other-code i n)
 
-  -- The account stays sound, where an active place is given a code that is not active
-  placed-sound : Sound account → p < places → number ≤ largest
+  -- The account stays sound, where an active place is given a code that is not active and the total is the count
+  placed-sound : Sound account → p < places → number ≤ largest → total ≡ countActive (placed .active)
       → (activeAt placed p ≡ true → (isCode code ≡ true) × (isActive account code ≡ false)) → Sound placed
-  placed-sound sound h k put = record {
+  placed-sound sound h k counts put = record {
     sized = placed-sized (sound .sized);
     single = λ i j hi hj a b e. one i j hi hj a b e (ℕ-discrete i p) (ℕ-discrete j p);
     read = λ i hi a. ok i hi a (ℕ-discrete i p);
     within = k;
+    counted = counts;
   }
     where
       here : codeAt placed p ≡ code
@@ -134,26 +139,38 @@ module _ (number : ℕ) (account : Account) (p : ℕ) (code : Halves) (on : ℕ)
 
 -- ---- a code takes the lowest free place
 
+-- The total with one place more active, where that is a place
+raised-more : (total : ℕ) → total < places → raised total ≡ suc total
+raised-more total h = rw (lt-ltb total places h)
+
 module _ (number : ℕ) {account : Account} (code : Halves) (sound : Sound account) (room : isFull account ≡ false) where
   abbrev here : freePlace account < places
   here = free-within account room
 
+  -- One more place is active
+  pub taken-count : countActive (taken number account code .active) ≡ suc (countActive (account .active))
+  taken-count = count-taken (account .active) (freePlace account) 1 (omega (arith, here, sound .sized .actives)) (free-free account room) refl
+
+  -- and the total says so
+  taken-total : taken number account code .total ≡ countActive (taken number account code .active)
+  taken-total =
+      raised-more (account .total) (omega (arith, sound .counted, count-below account (sound .sized .actives) room))
+      ∙ ap suc (sound .counted)
+      ∙ sym taken-count
+
   -- The account stays sound, where the code is one that reading accepts and was not active
   pub taken-sound : number ≤ largest → isCode code ≡ true → isActive account code ≡ false → Sound (taken number account code)
-  taken-sound k c n = placed-sound number account (freePlace account) code 1 sound here k (λ a. (c, n))
+  taken-sound k c n =
+      placed-sound number (raised (account .total)) account (freePlace account) code 1 sound here k taken-total (λ a. (c, n))
 
   -- The active codes are this one and those that were
   pub taken-active : (d : Halves) → isActive (taken number account code) d ≡ (sameCode code d || isActive account d)
   taken-active d =
-      placed-among number account (freePlace account) code 1 d here
+      placed-among number (raised (account .total)) account (freePlace account) code 1 d here
       (fails-left (sameCode (codeAt account (freePlace account)) d) (ap not (free-free account room)))
       ∙ ap₂ (λ (a : Bool) (c : Halves). (a && sameCode c d) || isActive account d)
-      (placed-active number account (freePlace account) code 1 (sound .sized) here)
-      (placed-code number account (freePlace account) code 1 (sound .sized) here)
-
-  -- and one more place is active
-  pub taken-count : countActive (taken number account code .active) ≡ suc (countActive (account .active))
-  taken-count = count-taken (account .active) (freePlace account) 1 (omega (arith, here, sound .sized .actives)) (free-free account room) refl
+      (placed-active number (raised (account .total)) account (freePlace account) code 1 (sound .sized) here)
+      (placed-code number (raised (account .total)) account (freePlace account) code 1 (sound .sized) here)
 
 -- ---- the place of an active code cleared
 
@@ -163,12 +180,23 @@ module _ (number : ℕ) {account : Account} (code : Halves) (sound : Sound accou
 
   -- The place is not active
   place-cleared : activeAt (cleared number account code) (placeOf account code) ≡ false
-  place-cleared = placed-active number account (placeOf account code) zeros 0 (sound .sized) place-within
+  place-cleared = placed-active number (lowered (account .total)) account (placeOf account code) zeros 0 (sound .sized) place-within
+
+  -- One less place is active
+  pub cleared-count : suc (countActive (cleared number account code .active)) ≡ countActive (account .active)
+  cleared-count =
+      count-cleared (account .active) (placeOf account code) (omega (arith, place-within, sound .sized .actives))
+      (not-true (isFree (account .active) (placeOf account code)) (place-active account code place-within .0))
+
+  -- and the total says so
+  cleared-total : cleared number account code .total ≡ countActive (cleared number account code .active)
+  cleared-total = omega (arith, sound .counted, cleared-count)
 
   -- The account stays sound
   pub cleared-sound : number ≤ largest → Sound (cleared number account code)
   cleared-sound k =
-      placed-sound number account (placeOf account code) zeros 0 sound place-within k (λ a. absurd (true≢false (sym a ∙ place-cleared)))
+      placed-sound number (lowered (account .total)) account (placeOf account code) zeros 0 sound place-within k cleared-total
+      (λ a. absurd (true≢false (sym a ∙ place-cleared)))
 
   -- The active codes are those that were, without this one
   pub cleared-active : (d : Halves) → isActive (cleared number account code) d ≡ (not (sameCode code d) && isActive account d)
@@ -189,18 +217,12 @@ module _ (number : ℕ) {account : Account} (code : Halves) (sound : Sound accou
       -- so no place has it
       gone : code ≡ d → (i : ℕ) → i < places → Dec (i ≡ placeOf account code) → holdsAt afterwards d i ≡ false
       gone s i h (yes q) = fails-left (sameCode (codeAt afterwards i) d) (ap (λ (j : ℕ). activeAt afterwards j) q ∙ place-cleared)
-      gone s i h (no n) = other-holds number account (placeOf account code) zeros 0 d i n ∙ other-place s i h n (holdsAt account d i) refl
+      gone s i h (no n) = other-holds number (lowered (account .total)) account (placeOf account code) zeros 0 d i n ∙ other-place s i h n (holdsAt account d i) refl
 
       at : (b : Bool) → sameCode code d ≡ b → isActive afterwards d ≡ (not b && isActive account d)
       at true e = nowhere (holdsAt afterwards d) (λ i h. gone (same-code code d e) i h (ℕ-discrete i (placeOf account code)))
       at false e =
-          placed-among number account (placeOf account code) zeros 0 d place-within
+          placed-among number (lowered (account .total)) account (placeOf account code) zeros 0 d place-within
           (fails-right (activeAt account (placeOf account code))
           (ap (λ (c : Halves). sameCode c d) (place-active account code place-within .1) ∙ e))
           ∙ ap (λ (b : Bool). b || isActive account d) (fails-left (sameCode (codeAt afterwards (placeOf account code)) d) place-cleared)
-
-  -- and one less place is active
-  pub cleared-count : suc (countActive (cleared number account code .active)) ≡ countActive (account .active)
-  cleared-count =
-      count-cleared (account .active) (placeOf account code) (omega (arith, place-within, sound .sized .actives))
-      (not-true (isFree (account .active) (placeOf account code)) (place-active account code place-within .0))

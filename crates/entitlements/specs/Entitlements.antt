@@ -1,6 +1,6 @@
--- The account of entitlements (document 02, request 3), in the request's words: what an account keeps, what is active, what messages
--- answer and what they leave. Assumes nothing.
-use Prim.Native.Nat.{ℕ, suc}
+-- The account of entitlements (document 02, requests 3 and 5), in the requests' words: what an account keeps, what is active, what
+-- messages answer and what they leave. Assumes nothing.
+use Prim.Native.Nat.{ℕ, suc, _-_}
 use mathlib.Core.Bool.{Bool, true, false, cond, not, _&&_, _||_}
 use mathlib.Core.List.{List, [], _∷_}
 use lib.Dec.{eqb, leb, ltb}
@@ -16,14 +16,13 @@ use Rattle.entitlements.specs.declared.Answer.{Answer}
 use Rattle.entitlements.specs.declared.Answer.the-variants as answer
 use Rattle.entitlements.specs.declared.Answered.{Answered}
 
--- ---- "An empty account has 256 free places and a last number of 0"
+-- An account by its arrays, its last number and, "Keep the total in the account", its total
+abbrev pub accountOf : List ℕ → List ℕ → List ℕ → ℕ → ℕ → Account
+accountOf high low active last total = record { high = high; low = low; active = active; last = last; total = total }
 
+-- "An empty account has 256 free places and a last number of 0", and a total of 0
 abbrev pub empty : Account
-empty = record { high = replicate places 0; low = replicate places 0; active = replicate places 0; last = 0 }
-
--- An account by its arrays and its last number
-abbrev pub accountOf : List ℕ → List ℕ → List ℕ → ℕ → Account
-accountOf high low active last = record { high = high; low = low; active = active; last = last }
+empty = accountOf (replicate places 0) (replicate places 0) (replicate places 0) 0 0
 
 -- ---- What is active
 
@@ -51,7 +50,7 @@ freePlace account = lowestPlace (isFree (account .active))
 abbrev pub isFull : Account → Bool
 isFull account = not (ltb (freePlace account) places)
 
--- How many places are active
+-- "the full count": how many places are active
 abbrev pub countActive : List ℕ → ℕ
 countActive [] = 0
 countActive (a ∷ active) = cond (eqb a 0) (countActive active) (suc (countActive active))
@@ -129,20 +128,24 @@ decide (r ∷ rows) other = cond (r .applies) (r .then) (decide rows other)
 
 -- The account with a number used up, and nothing else changed
 abbrev pub used : ℕ → Account → Account
-used number account = record { high = account .high; low = account .low; active = account .active; last = number }
+used number account = accountOf (account .high) (account .low) (account .active) number (account .total)
 
--- The account with a number used up, and with this put at a place: halves and activity. No other place changes
-abbrev pub putAt : Account → ℕ → Halves → ℕ → ℕ → Account
-putAt account place code active number = record {
-  high = set (account .high) place (code .high);
-  low = set (account .low) place (code .low);
-  active = set (account .active) place active;
-  last = number;
-}
+-- The account with a number used up, with another total, and with this put at a place: halves and activity. No other place changes
+abbrev pub putAt : Account → ℕ → Halves → ℕ → ℕ → ℕ → Account
+putAt account place code active number total =
+    accountOf (set (account .high) place (code .high)) (set (account .low) place (code .low)) (set (account .active) place active) number total
+
+-- The total with one place more active: an account of 256 places has no more, so that a total of 256 stays
+abbrev pub raised : ℕ → ℕ
+raised total = cond (ltb total places) (suc total) total
+
+-- and with one less, where 0 stays
+abbrev pub lowered : ℕ → ℕ
+lowered total = total - 1
 
 -- "An activation takes the lowest free place"
 abbrev pub taken : ℕ → Account → Halves → Account
-taken number account code = putAt account (freePlace account) code 1 number
+taken number account code = putAt account (freePlace account) code 1 number (raised (account .total))
 
 -- What a cleared place holds
 abbrev pub zeros : Halves
@@ -150,7 +153,7 @@ zeros = halvesBy 0 0
 
 -- "a cancelled place is cleared to zero and used again"
 abbrev pub cleared : ℕ → Account → Halves → Account
-cleared number account code = putAt account (placeOf account code) zeros 0 number
+cleared number account code = putAt account (placeOf account code) zeros 0 number (lowered (account .total))
 
 -- An activation of a code: "already"; "43 full, exactly when an activation finds 256 others active and its code not"
 unfoldable pub activation : Account → Halves → ℕ → Done
@@ -199,10 +202,14 @@ noCodeAt account i = activeAt account i && not (isCode (codeAt account i))
 abbrev pub somewhere : (ℕ → Bool) → Bool
 somewhere test = ltb (lowestPlace test) places
 
+-- A total that "isn't the count of its places"
+abbrev pub miscounted : Account → Bool
+miscounted account = not (eqb (account .total) (countActive (account .active)))
+
 -- "40 an account handed in with one code active twice, an active place whose content is no code that reading accepts, or a last number
--- too large"
+-- too large"; "40 also for an account whose total isn't the count of its places"
 unfoldable pub noAccount : Account → Bool
-noAccount account = somewhere (twiceAt account) || (somewhere (noCodeAt account) || ltb largest (account .last))
+noAccount account = somewhere (twiceAt account) || (somewhere (noCodeAt account) || (ltb largest (account .last) || miscounted account))
 
 -- A message: 40 comes first, and the account is as it went in
 unfoldable pub message : Kind → Account → List ℕ → ℕ → Done

@@ -30,6 +30,8 @@ use Rattle.entitlements.specs.Entitlements.{
   Done,
   done,
   used,
+  raised,
+  lowered,
   taken,
   zeros,
   cleared,
@@ -130,10 +132,11 @@ outcome-sized sized no-code = sized
 outcome-sized sized too-old = sized
 outcome-sized sized (activates-again p e) = record { highs = sized .highs; lows = sized .lows; actives = sized .actives }
 outcome-sized sized (finds-full p e f) = record { highs = sized .highs; lows = sized .lows; actives = sized .actives }
-outcome-sized {account} {text} {number} sized (activates p e f) = placed-sized number account (freePlace account) (halvesIn text) 1 sized
+outcome-sized {account} {text} {number} sized (activates p e f) =
+    placed-sized number (raised (account .total)) account (freePlace account) (halvesIn text) 1 sized
 outcome-sized sized (finds-inactive p e) = record { highs = sized .highs; lows = sized .lows; actives = sized .actives }
 outcome-sized {account} {text} {number} sized (cancels p e) =
-    placed-sized number account (placeOf account (halvesIn text)) zeros 0 sized
+    placed-sized number (lowered (account .total)) account (placeOf account (halvesIn text)) zeros 0 sized
 
 -- 40 does not come
 outcome-not-40 : {account : Account} {text : List ℕ} {number : ℕ} {kind : Kind} {d : Done} → Outcome account text number kind d

@@ -5,9 +5,9 @@ use native.Mathlib.Omega.{arith}
 use mathlib.Core.Path.{_≡_, refl, ap, sym, _∙_}
 use mathlib.Core.Bool.{Bool, true, false, not, _&&_, _||_, true≢false}
 use mathlib.Core.List.{List}
-use lib.Dec.{ltb}
+use lib.Dec.{ltb, eqb}
 use lib.ListN.{length, getD, getD-replicate}
-use borrow.Author.Tests.{eq-eqb, le-ltb, ltb-false, not-false}
+use borrow.Author.Tests.{eq-eqb, eqb-true, le-ltb, ltb-false, not-false}
 use Rattle.facts.specs.Tests.{neither, none-of, fails-left}
 use Rattle.facts.specs.Numbers.{Compared, less, same, more, compared, not-above}
 use Rattle.halves.specs.declared.Halves.{Halves}
@@ -29,6 +29,7 @@ use Rattle.entitlements.specs.Entitlements.{
   twiceAt,
   noCodeAt,
   somewhere,
+  miscounted,
   noAccount,
   message,
 }
@@ -40,26 +41,30 @@ pub record Sized (account : Account) : Type 0 where
   pub lows : length (account .low) ≡ places
   pub actives : length (account .active) ≡ places
 
--- A sound account: 256 places, no code active twice, each active place with a code that reading accepts, and no last number too large
+-- A sound account: 256 places, no code active twice, each active place with a code that reading accepts, no last number too large, and
+-- a total that is the count
 pub record Sound (account : Account) : Type 0 where
   pub sized : Sized account
   pub single : (i j : ℕ) → i < places → j < places → activeAt account i ≡ true → activeAt account j ≡ true
       → codeAt account i ≡ codeAt account j → i ≡ j
   pub read : (i : ℕ) → i < places → activeAt account i ≡ true → isCode (codeAt account i) ≡ true
   pub within : account .last ≤ largest
+  pub counted : account .total ≡ countActive (account .active)
 
 module _ {account : Account} where
   -- An account of 256 places is sound where 40 does not come
   pub accepted-sound : Sized account → noAccount account ≡ false → Sound account
   unfolding noAccount
   accepted-sound sized e =
-      let first = neither (somewhere (twiceAt account)) (somewhere (noCodeAt account) || ltb largest (account .last)) e in
-      let second = neither (somewhere (noCodeAt account)) (ltb largest (account .last)) (first .1) in
+      let first = neither (somewhere (twiceAt account)) (somewhere (noCodeAt account) || (ltb largest (account .last) || miscounted account)) e in
+      let second = neither (somewhere (noCodeAt account)) (ltb largest (account .last) || miscounted account) (first .1) in
+      let third = neither (ltb largest (account .last)) (miscounted account) (second .1) in
       record {
         sized = sized;
         single = λ i j h k a b s. at (first .0) i j h k a b s (compared i j);
         read = λ i h a. not-false (isCode (codeAt account i)) (left a ∙ nowhere-at (noCodeAt account) (second .0) i h);
-        within = ltb-false largest (account .last) (second .1);
+        within = ltb-false largest (account .last) (third .0);
+        counted = eqb-true (account .total) (countActive (account .active)) (not-false (eqb (account .total) (countActive (account .active))) (third .1));
       }
     where
       left : {a b : Bool} → a ≡ true → b ≡ (a && b)
@@ -88,7 +93,9 @@ module _ {account : Account} where
       (nowhere (twiceAt account) (λ i h. twice i h (activeAt account i) refl))
       (none-of
       (nowhere (noCodeAt account) (λ i h. unread i h (activeAt account i) refl))
-      (le-ltb largest (account .last) (sound .within)))
+      (none-of
+      (le-ltb largest (account .last) (sound .within))
+      (ap not (eq-eqb (account .total) (countActive (account .active)) (sound .counted)))))
     where
       unread : (i : ℕ) → i < places → (a : Bool) → activeAt account i ≡ a → (a && not (isCode (codeAt account i))) ≡ false
       unread i h true e = ap not (sound .read i h e)
@@ -111,6 +118,10 @@ module _ {account : Account} where
 empty-inactive : (i : ℕ) → i < places → activeAt empty i ≡ false
 empty-inactive i h = ap not (eq-eqb (getD (empty .active) i 0) 0 (getD-replicate places i 0 0 h))
 
+-- Its total is the count
+pub empty-count : countActive (empty .active) ≡ 0
+empty-count = count-free places
+
 -- It is sound
 pub empty-sound : Sound empty
 empty-sound = record {
@@ -118,15 +129,12 @@ empty-sound = record {
   single = λ i j h k a b e. absurd (true≢false (sym a ∙ empty-inactive i h));
   read = λ i h a. absurd (true≢false (sym a ∙ empty-inactive i h));
   within = omega arith;
+  counted = sym empty-count;
 }
 
 -- No code is active in it
 pub empty-active : (code : Halves) → isActive empty code ≡ false
 empty-active code = nowhere (holdsAt empty code) (λ i h. fails-left (sameCode (codeAt empty i) code) (empty-inactive i h))
-
--- and no place
-pub empty-count : countActive (empty .active) ≡ 0
-empty-count = count-free places
 
 -- ---- messages to a sound account
 

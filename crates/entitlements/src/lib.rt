@@ -8,12 +8,14 @@ use places::PLACES;
 pub const LARGEST: u64 = 1099511627775;
 
 // An account: for each place the two halves of a code and whether it is active (0 is free, any other
-// number active), and the last number processed. It goes into each message and comes back.
+// number active), the last number processed, and the total, which is how many are active. It goes into
+// each message and comes back.
 pub struct Account {
     pub high: [u64; PLACES],
     pub low: [u64; PLACES],
     pub active: [u64; PLACES],
     pub last: u64,
+    pub total: u64,
 }
 
 // The two messages.
@@ -50,7 +52,15 @@ pub fn empty() -> Account
         low: [0; PLACES],
         active: [0; PLACES],
         last: 0,
+        total: 0,
     }
+}
+
+// How many codes are active: the total that is kept, also in an account that messages would refuse.
+pub fn total(account: Account) -> u64
+    ensures { λ r. ⌜ r ≡ account .total ⌝ }
+{
+    account.total
 }
 
 // The number of a refusal, and 0 of any other answer.
