@@ -15,26 +15,44 @@ use Rattle.entitlements.specs.declared.Account.{Account}
 use Rattle.entitlements.specs.declared.Kind.{Kind}
 use Rattle.entitlements.specs.declared.Kind.the-variants.{Activate, Cancel}
 use Rattle.entitlements.specs.declared.Answer.the-variants as answer
-use Rattle.entitlements.specs.Entitlements.{accountOf, placeOf, freePlace, used, putAt, zeros, activation, cancellation, acting, largest, processing, done, refusal, old}
+use Rattle.entitlements.specs.Entitlements.{
+  accountOf,
+  placeOf,
+  freePlace,
+  putAt,
+  raised,
+  lowered,
+  zeros,
+  activation,
+  cancellation,
+  acting,
+  largest,
+  processing,
+  done,
+  refusal,
+  old,
+}
 use Rattle.change.specs.declared.Step.{Step}
 use Rattle.change.specs.Change.{stepped, keeps, puts, makes, activating, cancelling, actingOn, changeOf}
 
 -- ---- a step that puts something at a place, and one that puts nothing
 
 module _ (step : Step) (account : Account) where
-  pub stepped-put : step .place < places → stepped step account ≡ putAt account (step .place) (step .code) (step .active) (step .last)
+  pub stepped-put : step .place < places → stepped step account
+      ≡ putAt account (step .place) (step .code) (step .active) (step .last) (step .total)
   stepped-put h = rw (lt-ltb (step .place) places h)
 
-  pub stepped-none : places ≤ step .place → stepped step account ≡ used (step .last) account
+  pub stepped-none : places ≤ step .place → stepped step account
+      ≡ accountOf (account .high) (account .low) (account .active) (step .last) (step .total)
   stepped-none h = rw (le-ltb (step .place) places h)
 
--- the last number before a step does not count
-pub stepped-last : (step : Step) (high low active : List ℕ) (one other : ℕ)
-    → stepped step (accountOf high low active one) ≡ stepped step (accountOf high low active other)
-stepped-last step high low active one other = at (ltb (step .place) places) refl
+-- the last number and the total before a step do not count
+pub stepped-last : (step : Step) (high low active : List ℕ) (last total other sum : ℕ)
+    → stepped step (accountOf high low active last total) ≡ stepped step (accountOf high low active other sum)
+stepped-last step high low active last total other sum = at (ltb (step .place) places) refl
   where
     at : (b : Bool) → ltb (step .place) places ≡ b
-        → stepped step (accountOf high low active one) ≡ stepped step (accountOf high low active other)
+        → stepped step (accountOf high low active last total) ≡ stepped step (accountOf high low active other sum)
     at true e = rw e
     at false e = rw e
 
@@ -46,14 +64,14 @@ module _ (account : Account) (code : Halves) (number : ℕ) where
   acting-makes Activate = at (ltb (placeOf account code) places) (ltb (freePlace account) places) refl refl
     where
       at : (a f : Bool) → ltb (placeOf account code) places ≡ a → ltb (freePlace account) places ≡ f
-          → makes (activating (account .active) (placeOf account code) code number) account ≡ activation account code number
+          → makes (activating (account .active) (placeOf account code) code number (account .total)) account ≡ activation account code number
       at true f e k = rw e
       at false true e k = rw (e, k, k)
       at false false e k = rw (e, k)
   acting-makes Cancel = at (ltb (placeOf account code) places) refl
     where
       at : (a : Bool) → ltb (placeOf account code) places ≡ a
-          → makes (cancelling (placeOf account code) number) account ≡ cancellation account code number
+          → makes (cancelling (placeOf account code) number (account .total)) account ≡ cancellation account code number
       at true e = rw (e, e)
       at false e = rw e
 
@@ -64,8 +82,9 @@ change-processing kind account text number = at (eqb number 0 || ltb largest num
   where
     at : (n r o : Bool)
         → makes
-        (cond n (keeps answer.Number (account .last))
-        (cond (not r) (keeps answer.Code (account .last)) (cond o (keeps answer.Old (account .last)) (actingOn kind account (halvesIn text) number))))
+        (cond n (keeps answer.Number (account .last) (account .total))
+        (cond (not r) (keeps answer.Code (account .last) (account .total))
+        (cond o (keeps answer.Old (account .last) (account .total)) (actingOn kind account (halvesIn text) number))))
         account
         ≡ cond n (done (refusal 41) account)
         (cond (not r) (done (refusal 42) account) (cond o (done old account) (acting kind account (halvesIn text) number)))
@@ -76,28 +95,28 @@ change-processing kind account text number = at (eqb number 0 || ltb largest num
 
 -- ---- the cases of an activation and of a cancellation
 
-module _ (active : List ℕ) (place : ℕ) (code : Halves) (number : ℕ) where
-  pub activating-already : place < places → activating active place code number ≡ keeps answer.Already number
+module _ (active : List ℕ) (place : ℕ) (code : Halves) (number total : ℕ) where
+  pub activating-already : place < places → activating active place code number total ≡ keeps answer.Already number total
   unfolding activating
   activating-already h = rw (lt-ltb place places h)
 
   module _ (h : places ≤ place) where
     pub activating-taken : lowestPlace (isFree active) < places
-        → activating active place code number ≡ puts answer.Activated number (lowestPlace (isFree active)) code 1
+        → activating active place code number total ≡ puts answer.Activated number (raised total) (lowestPlace (isFree active)) code 1
     unfolding activating
     activating-taken k = rw (le-ltb place places h, lt-ltb (lowestPlace (isFree active)) places k)
 
-    pub activating-full : places ≤ lowestPlace (isFree active) → activating active place code number ≡ keeps answer.Full number
+    pub activating-full : places ≤ lowestPlace (isFree active) → activating active place code number total ≡ keeps answer.Full number total
     unfolding activating
     activating-full k = rw (le-ltb place places h, le-ltb (lowestPlace (isFree active)) places k)
 
-module _ (place number : ℕ) where
+module _ (place number total : ℕ) where
   pub cancelling-cleared : place < places
-      → cancelling place number ≡ puts answer.Cancelled number place zeros 0
+      → cancelling place number total ≡ puts answer.Cancelled number (lowered total) place zeros 0
   unfolding cancelling
   cancelling-cleared h = rw (lt-ltb place places h)
 
-  pub cancelling-none : places ≤ place → cancelling place number ≡ keeps answer.NotActive number
+  pub cancelling-none : places ≤ place → cancelling place number total ≡ keeps answer.NotActive number total
   unfolding cancelling
   cancelling-none h = rw (le-ltb place places h)
 
@@ -105,23 +124,23 @@ module _ (place number : ℕ) where
 
 module _ (kind : Kind) (account : Account) (text : List ℕ) (number : ℕ) where
   -- 41: the number is 0, or too large
-  pub change-zero : number ≡ 0 → changeOf kind account text number ≡ keeps answer.Number (account .last)
+  pub change-zero : number ≡ 0 → changeOf kind account text number ≡ keeps answer.Number (account .last) (account .total)
   unfolding changeOf
   change-zero e = rw (eq-eqb number 0 e)
 
-  pub change-large : largest < number → changeOf kind account text number ≡ keeps answer.Number (account .last)
+  pub change-large : largest < number → changeOf kind account text number ≡ keeps answer.Number (account .last) (account .total)
   unfolding changeOf
   change-large h = rw (lt-ltb largest number h, or-true)
 
   module _ (some : number ≡ 0 → ⊥) (most : number ≤ largest) where
     -- 42, where the text is no code
-    pub change-refused : codeIn text ≡ Refused → changeOf kind account text number ≡ keeps answer.Code (account .last)
+    pub change-refused : codeIn text ≡ Refused → changeOf kind account text number ≡ keeps answer.Code (account .last) (account .total)
     unfolding changeOf
     change-refused e = rw (ne-eqb number 0 some, le-ltb largest number most, code-refused text e)
 
     -- "old"
     pub change-old : {code : Halves} → codeIn text ≡ Read code → number ≤ account .last
-        → changeOf kind account text number ≡ keeps answer.Old (account .last)
+        → changeOf kind account text number ≡ keeps answer.Old (account .last) (account .total)
     unfolding changeOf
     change-old e h = rw (ne-eqb number 0 some, le-ltb largest number most, code-read text e .0, le-leb number (account .last) h)
 

@@ -17,9 +17,9 @@ pub stay-once : (s a b : Step) → a ≡ s → b ≡ s → a ≡ b
 stay-once s a b = once
 
 -- Arrays that meet the promise of `put_step` are the same
-pub step-once : (account : Account) (last : ℕ) (high low active other-high other-low other-active : List ℕ)
-    → accountOf high low active last ≡ account → accountOf other-high other-low other-active last ≡ account
+pub step-once : (account : Account) (last total : ℕ) (high low active other-high other-low other-active : List ℕ)
+    → accountOf high low active last total ≡ account → accountOf other-high other-low other-active last total ≡ account
     → (high ≡ other-high) × (low ≡ other-low) × (active ≡ other-active)
-step-once account last high low active other-high other-low other-active e k =
+step-once account last total high low active other-high other-low other-active e k =
     let same = once e k in
     (ap (λ (a : Account). a .high) same, ap (λ (a : Account). a .low) same, ap (λ (a : Account). a .active) same)

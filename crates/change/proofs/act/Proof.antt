@@ -22,13 +22,13 @@ returns : tie.Need-returns
 returns c =
     let asked = c .before .before .before .args in
     c .activation .ensures
-    ∙ ap (λ (kind : Kind). actingAt kind (asked .active .now) (asked .place) (asked .code) (asked .number)) (sym (c .before .enum-told .given .1))
+    ∙ ap (λ (kind : Kind). actingAt kind (asked .active .now) (asked .place) (asked .code) (asked .number) (asked .total)) (sym (c .before .enum-told .given .1))
 
 returns-2 : tie.Need-returns-2
 returns-2 c =
     let asked = c .before .before .before .args in
     c .cancellation .ensures
-    ∙ ap (λ (kind : Kind). actingAt kind (asked .active .now) (asked .place) (asked .code) (asked .number)) (sym (c .before .enum-told2 .given .1))
+    ∙ ap (λ (kind : Kind). actingAt kind (asked .active .now) (asked .place) (asked .code) (asked .number) (asked .total)) (sym (c .before .enum-told2 .given .1))
 
 pub act-spec : {M : Type 1} → statement M
 act-spec = tie.close (tie.spec enum-told activation-requires enum-told-2 cancellation-requires returns returns-2)

@@ -1,6 +1,6 @@
 -- `change::activation` meets its contract, case by case. Assumes nothing.
 use Prim.Native.Nat.{ℕ, _<_, _≤_}
-use mathlib.Core.Path.{ap, sym, subst, _∙_}
+use mathlib.Core.Path.{ap₂, sym, subst, _∙_}
 use Rattle.places.specs.Places.{places}
 use Rattle.entitlements.specs.declared.Answer.the-variants.{Activated}
 use Rattle.change.specs.Change.{puts}
@@ -15,18 +15,21 @@ keep-requires c κs = search needs
 returns : tie.Need-returns
 returns c =
     let asked = c .before .before .args in
-    c .keep .ensures ∙ sym (activating-already (asked .active .now) (asked .place) (asked .code) (asked .number) (c .before .if1 .taken))
+    c .keep .ensures ∙ sym (activating-already (asked .active .now) (asked .place) (asked .code) (asked .number) (asked .total) (c .before .if1 .taken))
 
 free-place-requires : tie.Need-free-place-requires
 free-place-requires c κs = search needs
 
+raised-requires : tie.Need-raised-requires
+raised-requires c κs = search needs
+
 returns-2 : tie.Need-returns-2
 returns-2 c =
-    let asked = c .before .before .before .args in
-    let free = c .before .free-place .ensures in
-    let found = subst (λ (i : ℕ). i < places) free (c .if2 .taken) in
-    ap (λ (i : ℕ). puts Activated (asked .number) i (asked .code) 1) free
-    ∙ sym (activating-taken (asked .active .now) (asked .place) (asked .code) (asked .number) (c .before .before .if1 .left) found)
+    let asked = c .before .before .before .before .args in
+    let free = c .before .before .free-place .ensures in
+    let found = subst (λ (i : ℕ). i < places) free (c .before .if2 .taken) in
+    ap₂ (λ (i total : ℕ). puts Activated (asked .number) total i (asked .code) 1) free (c .raised .ensures)
+    ∙ sym (activating-taken (asked .active .now) (asked .place) (asked .code) (asked .number) (asked .total) (c .before .before .before .if1 .left) found)
 
 keep-requires-2 : tie.Need-keep-requires-2
 keep-requires-2 c κs = search needs
@@ -36,9 +39,9 @@ returns-3 c =
     let asked = c .before .before .before .before .args in
     let none = subst (λ (i : ℕ). places ≤ i) (c .before .before .free-place .ensures) (c .before .if2 .left) in
     c .keep2 .ensures
-    ∙ sym (activating-full (asked .active .now) (asked .place) (asked .code) (asked .number) (c .before .before .before .if1 .left) none)
+    ∙ sym (activating-full (asked .active .now) (asked .place) (asked .code) (asked .number) (asked .total) (c .before .before .before .if1 .left) none)
 
 pub activation-spec : {M : Type 1} → statement M
 activation-spec =
     tie.close
-    (tie.spec keep-requires returns free-place-requires returns-2 keep-requires-2 returns-3)
+    (tie.spec keep-requires returns free-place-requires raised-requires returns-2 keep-requires-2 returns-3)

@@ -15,7 +15,7 @@ keep-requires c κs = search needs
 returns : tie.Need-returns
 returns c =
     let asked = c .before .before .before .args in
-    let account = accountOf (asked .high .now) (asked .low .now) (asked .active .now) (asked .last) in
+    let account = accountOf (asked .high .now) (asked .low .now) (asked .active .now) (asked .last) (asked .total) in
     c .keep .ensures ∙ sym (change-zero (asked .kind) account (asked .text .now) (asked .number) (c .before .if1 .taken))
 
 keep-requires-2 : tie.Need-keep-requires-2
@@ -24,7 +24,7 @@ keep-requires-2 c κs = search needs
 returns-2 : tie.Need-returns-2
 returns-2 c =
     let asked = c .before .before .before .before .args in
-    let account = accountOf (asked .high .now) (asked .low .now) (asked .active .now) (asked .last) in
+    let account = accountOf (asked .high .now) (asked .low .now) (asked .active .now) (asked .last) (asked .total) in
     c .keep2 .ensures ∙ sym (change-large (asked .kind) account (asked .text .now) (asked .number) (c .before .if2 .taken))
 
 code-in-requires : tie.Need-code-in-requires
@@ -42,7 +42,7 @@ keep-requires-3 c κs = search needs
 returns-3 : tie.Need-returns-3
 returns-3 c =
     let asked = c .before .before .before .before .before .before .before .args in
-    let account = accountOf (asked .high .now) (asked .low .now) (asked .active .now) (asked .last) in
+    let account = accountOf (asked .high .now) (asked .low .now) (asked .active .now) (asked .last) (asked .total) in
     let some = c .before .before .before .before .before .if1 .left in
     let most = c .before .before .before .before .if2 .left in
     let refused = sym (c .before .before .before .code-in .ensures) ∙ c .before .enum-told .given .1 in
@@ -54,7 +54,7 @@ keep-requires-4 c κs = search needs
 returns-4 : tie.Need-returns-4
 returns-4 c =
     let asked = c .before .before .before .before .before .before .before .before .before .args in
-    let account = accountOf (asked .high .now) (asked .low .now) (asked .active .now) (asked .last) in
+    let account = accountOf (asked .high .now) (asked .low .now) (asked .active .now) (asked .last) (asked .total) in
     let some = c .before .before .before .before .before .before .before .if1 .left in
     let most = c .before .before .before .before .before .before .if2 .left in
     let read = sym (c .before .before .before .before .before .code-in .ensures) ∙ c .before .before .before .read .given .1 in
@@ -69,14 +69,14 @@ act-requires c κs = search needs
 returns-5 : tie.Need-returns-5
 returns-5 c =
     let asked = c .before .before .before .before .before .before .before .before .before .before .args in
-    let account = accountOf (asked .high .now) (asked .low .now) (asked .active .now) (asked .last) in
+    let account = accountOf (asked .high .now) (asked .low .now) (asked .active .now) (asked .last) (asked .total) in
     let some = c .before .before .before .before .before .before .before .before .if1 .left in
     let most = c .before .before .before .before .before .before .before .if2 .left in
     let seen = c .before .before .before .before .read .given in
     let read = sym (c .before .before .before .before .before .before .code-in .ensures) ∙ seen .1 in
     let acts = change-acts (asked .kind) account (asked .text .now) (asked .number) some most read (omega (arith, c .before .before .if3 .left)) in
     c .act .ensures
-    ∙ ap (λ (place : ℕ). actingAt (asked .kind) (asked .active .now) place (seen .0 .0) (asked .number)) (c .before .code-place .ensures)
+    ∙ ap (λ (place : ℕ). actingAt (asked .kind) (asked .active .now) place (seen .0 .0) (asked .number) (asked .total)) (c .before .code-place .ensures)
     ∙ sym acts
 
 pub change-of-spec : {M : Type 1} → statement M

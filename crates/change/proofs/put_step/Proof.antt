@@ -27,13 +27,13 @@ element-write-active c = search needs
 returns : tie.Need-returns
 returns c =
     let asked = c .before .before .args in
-    let account = accountOf (asked .high .now) (asked .low .now) (asked .active .now) (asked .step .last) in
+    let account = accountOf (asked .high .now) (asked .low .now) (asked .active .now) (asked .step .last) (asked .step .total) in
     sym (stepped-put (asked .step) account (c .before .if1 .taken))
 
 returns-2 : tie.Need-returns-2
 returns-2 c =
     let asked = c .before .args in
-    let account = accountOf (asked .high .now) (asked .low .now) (asked .active .now) (asked .step .last) in
+    let account = accountOf (asked .high .now) (asked .low .now) (asked .active .now) (asked .step .last) (asked .step .total) in
     sym (stepped-none (asked .step) account (c .if1 .left))
 
 pub put-step-spec : {M : Type 1} → statement M
