@@ -1,22 +1,20 @@
--- The laws of what is active in an account: a test that passes somewhere, a code that is the same, the place of an active code, and how
--- many places are active; full is where all are. Assumes nothing.
-use Prim.Native.Nat.{ℕ, zero, suc, _≤_, _<_}
+-- The laws of what is active in an account: a test that passes somewhere, a code that is the same, the place of an active code, and
+-- full, which is where all places are active. Assumes nothing.
+use Prim.Native.Nat.{ℕ, _≤_, _<_}
 use native.Mathlib.Omega.{arith}
 use native.Mathlib.Decide.{ℕ-discrete}
 use mathlib.Core.Path.{_≡_, refl, ap, ap₂, sym, subst, _∙_}
 use mathlib.Core.Logic.{_≢_}
-use mathlib.Core.Bool.{Bool, true, false, cond, _&&_, _||_}
-use mathlib.Core.List.{List, [], _∷_}
+use mathlib.Core.Bool.{Bool, true, false, _&&_, _||_}
 use lib.Dec.{eqb}
-use lib.ListN.{length, getD, replicate, set, length-set}
 use borrow.Author.Tests.{eqb-true, eq-eqb, ne-eqb, lt-ltb, ltb-true, ltb-false, not-true, not-false}
 use Rattle.facts.specs.Tests.{both, same-truth}
 use Rattle.halves.specs.declared.Halves.{Halves}
 use Rattle.halves.specs.Halves.{halvesBy, sameCode}
-use Rattle.places.specs.Places.{places, isFree, holds, lowestPlace}
-use Rattle.places.specs.PlacesLaws.{lowest-before, lowest-passes, lowest-least}
+use Rattle.places.specs.Places.{places, isFree, holds, lowestPlace, countActive}
+use Rattle.places.specs.PlacesLaws.{lowest-before, lowest-passes, lowest-least, count-all, count-below}
 use Rattle.entitlements.specs.declared.Account.{Account}
-use Rattle.entitlements.specs.Entitlements.{codeAt, activeAt, placeOf, isActive, freePlace, isFull, countActive, somewhere}
+use Rattle.entitlements.specs.Entitlements.{codeAt, activeAt, placeOf, isActive, freePlace, isFull, somewhere}
 
 -- ---- a test that passes somewhere
 
@@ -102,49 +100,6 @@ module _ (account : Account) (code : Halves) where
   pub at-active : (i : ℕ) → i < places → activeAt account i ≡ true → codeAt account i ≡ code → isActive account code ≡ true
   at-active i h a e = lt-ltb (placeOf account code) places (omega (arith, h, place-least i a e))
 
--- ---- how many places are active
-
--- None where all are free
-pub count-free : (n : ℕ) → countActive (replicate n 0) ≡ 0
-count-free zero = refl
-count-free (suc n) = count-free n
-
--- One more where a free place becomes active
-pub count-taken : (active : List ℕ) (i a : ℕ) → i < length active → eqb (getD active i 0) 0 ≡ true → eqb a 0 ≡ false
-    → countActive (set active i a) ≡ suc (countActive active)
-count-taken [] i a h free on = let none : ⊥ = omega arith in absurd none
-count-taken (x ∷ active) zero a h free on = rw (free, on)
-count-taken (x ∷ active) (suc i) a h free on = at (eqb x 0) (count-taken active i a (omega arith) free on)
-  where
-    at : {m n : ℕ} (b : Bool) → m ≡ suc n → cond b m (suc m) ≡ suc (cond b n (suc n))
-    at true e = e
-    at false e = ap suc e
-
--- One less where an active place becomes free
-pub count-cleared : (active : List ℕ) (i : ℕ) → i < length active → eqb (getD active i 0) 0 ≡ false
-    → suc (countActive (set active i 0)) ≡ countActive active
-count-cleared [] i h on = let none : ⊥ = omega arith in absurd none
-count-cleared (x ∷ active) zero h on = rw on
-count-cleared (x ∷ active) (suc i) h on = at (eqb x 0) (count-cleared active i (omega arith) on)
-  where
-    at : {m n : ℕ} (b : Bool) → suc m ≡ n → suc (cond b m (suc m)) ≡ cond b n (suc n)
-    at true e = e
-    at false e = ap suc e
-
--- At most all
-count-most : (active : List ℕ) → countActive active ≤ length active
-count-most [] = omega arith
-count-most (x ∷ active) = at (eqb x 0) (count-most active)
-  where
-    at : {m n : ℕ} (b : Bool) → m ≤ n → cond b m (suc m) ≤ suc n
-    at true h = omega arith
-    at false h = omega arith
-
--- and all where none is free
-count-all : (active : List ℕ) → ((i : ℕ) → i < length active → eqb (getD active i 0) 0 ≡ false) → countActive active ≡ length active
-count-all [] on = refl
-count-all (x ∷ active) on = rw (on 0 (omega arith)) (ap suc (count-all active (λ i h. on (suc i) (omega arith))))
-
 -- ---- full, and the lowest free place
 
 module _ (account : Account) where
@@ -156,22 +111,16 @@ module _ (account : Account) where
   pub free-free : isFull account ≡ false → isFree (account .active) (freePlace account) ≡ true
   free-free e = lowest-passes (isFree (account .active)) (free-within e)
 
-  -- Where it is not, less than 256 are active
-  pub count-below : length (account .active) ≡ places → isFull account ≡ false → countActive (account .active) < places
-  count-below sized e =
-      let i : ℕ = freePlace account in
-      let more = count-taken (account .active) i 1 (omega (arith, free-within e, sized)) (free-free e) refl in
-      let size = length-set (account .active) i 1 in
-      omega (arith, more, size, sized, count-most (set (account .active) i 1))
+  -- Then less than 256 are active
+  pub count-within : isFull account ≡ false → countActive (account .active) < places
+  count-within e = count-below (account .active) (freePlace account) (free-within e) (free-free e)
 
   -- so it is full where 256 places are
-  pub full-count : length (account .active) ≡ places → isFull account ≡ eqb (countActive (account .active)) places
-  full-count sized = at (isFull account) refl
+  pub full-count : isFull account ≡ eqb (countActive (account .active)) places
+  full-count = at (isFull account) refl
     where
       at : (b : Bool) → isFull account ≡ b → b ≡ eqb (countActive (account .active)) places
       at true e =
           let none = nowhere-at (isFree (account .active)) (not-true (somewhere (isFree (account .active))) e) in
-          sym
-          (eq-eqb (countActive (account .active)) places
-          (count-all (account .active) (λ i h. none i (omega (arith, h, sized))) ∙ sized))
-      at false e = sym (ne-eqb (countActive (account .active)) places (λ k. omega (arith, k, count-below sized e)))
+          sym (eq-eqb (countActive (account .active)) places (count-all (account .active) none))
+      at false e = sym (ne-eqb (countActive (account .active)) places (λ k. omega (arith, k, count-within e)))

@@ -13,7 +13,8 @@ use borrow.Author.Tests.{lt-ltb, ltb-true, not-true}
 use Rattle.facts.specs.Tests.{both, fails-left, fails-right}
 use Rattle.halves.specs.declared.Halves.{Halves}
 use Rattle.halves.specs.Halves.{halvesBy, sameCode, isCode}
-use Rattle.places.specs.Places.{places, isFree}
+use Rattle.places.specs.Places.{places, isFree, countActive}
+use Rattle.places.specs.PlacesLaws.{count-taken, count-cleared}
 use Rattle.entitlements.specs.declared.Account.{Account}
 use Rattle.entitlements.specs.Entitlements.{
   codeAt,
@@ -22,7 +23,6 @@ use Rattle.entitlements.specs.Entitlements.{
   isActive,
   freePlace,
   isFull,
-  countActive,
   used,
   putAt,
   raised,
@@ -41,9 +41,7 @@ use Rattle.entitlements.specs.Active.{
   at-active,
   free-within,
   free-free,
-  count-taken,
-  count-cleared,
-  count-below,
+  count-within,
 }
 use Rattle.entitlements.specs.Sound.{Sized, Sound}
 
@@ -149,12 +147,12 @@ module _ (number : ℕ) {account : Account} (code : Halves) (sound : Sound accou
 
   -- One more place is active
   pub taken-count : countActive (taken number account code .active) ≡ suc (countActive (account .active))
-  taken-count = count-taken (account .active) (freePlace account) 1 (omega (arith, here, sound .sized .actives)) (free-free account room) refl
+  taken-count = count-taken (account .active) (sound .sized .actives) (freePlace account) here 1 (free-free account room) refl
 
   -- and the total says so
   taken-total : taken number account code .total ≡ countActive (taken number account code .active)
   taken-total =
-      raised-more (account .total) (omega (arith, sound .counted, count-below account (sound .sized .actives) room))
+      raised-more (account .total) (omega (arith, sound .counted, count-within account room))
       ∙ ap suc (sound .counted)
       ∙ sym taken-count
 
@@ -185,7 +183,7 @@ module _ (number : ℕ) {account : Account} (code : Halves) (sound : Sound accou
   -- One less place is active
   pub cleared-count : suc (countActive (cleared number account code .active)) ≡ countActive (account .active)
   cleared-count =
-      count-cleared (account .active) (placeOf account code) (omega (arith, place-within, sound .sized .actives))
+      count-cleared (account .active) (sound .sized .actives) (placeOf account code) place-within
       (not-true (isFree (account .active) (placeOf account code)) (place-active account code place-within .0))
 
   -- and the total says so

@@ -8,7 +8,7 @@ use lib.ListN.{replicate, set}
 use Rattle.facts.specs.Texts.{bytes}
 use Rattle.halves.specs.declared.Halves.{Halves}
 use Rattle.halves.specs.Halves.{halvesBy, halvesIn, readable, isCode}
-use Rattle.places.specs.Places.{places, isFree, codeOn, holds, lowestPlace}
+use Rattle.places.specs.Places.{places, isFree, codeOn, holds, lowestPlace, countActive}
 use Rattle.entitlements.specs.declared.Account.{Account}
 use Rattle.entitlements.specs.declared.Kind.{Kind}
 use Rattle.entitlements.specs.declared.Kind.the-variants.{Activate, Cancel}
@@ -49,11 +49,6 @@ freePlace account = lowestPlace (isFree (account .active))
 -- Full: all 256 places are active
 abbrev pub isFull : Account → Bool
 isFull account = not (ltb (freePlace account) places)
-
--- "the full count": how many places are active
-abbrev pub countActive : List ℕ → ℕ
-countActive [] = 0
-countActive (a ∷ active) = cond (eqb a 0) (countActive active) (suc (countActive active))
 
 -- ---- The answers
 

@@ -12,7 +12,8 @@ use Rattle.facts.specs.Tests.{neither, none-of, fails-left}
 use Rattle.facts.specs.Numbers.{Compared, less, same, more, compared, not-above}
 use Rattle.halves.specs.declared.Halves.{Halves}
 use Rattle.halves.specs.Halves.{sameCode, isCode}
-use Rattle.places.specs.Places.{places}
+use Rattle.places.specs.Places.{places, isFree, countActive}
+use Rattle.places.specs.PlacesLaws.{count-free}
 use Rattle.entitlements.specs.declared.Account.{Account}
 use Rattle.entitlements.specs.declared.Kind.{Kind}
 use Rattle.entitlements.specs.Entitlements.{
@@ -21,7 +22,6 @@ use Rattle.entitlements.specs.Entitlements.{
   activeAt,
   placeOf,
   isActive,
-  countActive,
   done,
   refusal,
   largest,
@@ -33,7 +33,7 @@ use Rattle.entitlements.specs.Entitlements.{
   noAccount,
   message,
 }
-use Rattle.entitlements.specs.Active.{nowhere-at, nowhere, place-active, place-least, holdsAt, count-free}
+use Rattle.entitlements.specs.Active.{nowhere-at, nowhere, place-active, place-least, holdsAt}
 
 -- 256 places
 pub record Sized (account : Account) : Type 0 where
@@ -114,13 +114,17 @@ module _ {account : Account} where
 
 -- ---- the empty account
 
--- No place of it is active
-empty-inactive : (i : ℕ) → i < places → activeAt empty i ≡ false
-empty-inactive i h = ap not (eq-eqb (getD (empty .active) i 0) 0 (getD-replicate places i 0 0 h))
+-- Each place of it is free
+empty-free : (i : ℕ) → i < places → isFree (empty .active) i ≡ true
+empty-free i h = eq-eqb (getD (empty .active) i 0) 0 (getD-replicate places i 0 0 h)
 
--- Its total is the count
+-- and so not active
+empty-inactive : (i : ℕ) → i < places → activeAt empty i ≡ false
+empty-inactive i h = ap not (empty-free i h)
+
+-- None is counted, and its total says so
 pub empty-count : countActive (empty .active) ≡ 0
-empty-count = count-free places
+empty-count = count-free (empty .active) empty-free
 
 -- It is sound
 pub empty-sound : Sound empty

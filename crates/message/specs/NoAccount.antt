@@ -1,21 +1,22 @@
--- 40 by the last number or by a place, and the loop that looks for such a place. Assumes nothing.
+-- 40 by the last number, by the total or by a place, and the loop that looks for such a place. Assumes nothing.
 use Prim.Native.Nat.{ℕ, _<_, _≤_}
 use native.Mathlib.Omega.{arith}
-use mathlib.Core.Path.{_≡_}
+use mathlib.Core.Path.{_≡_, ap, sym}
 use mathlib.Core.Logic.{_⊎_, inl, inr}
-use mathlib.Core.Bool.{Bool, true, false, _||_, or-false}
+use mathlib.Core.Bool.{Bool, true, false, not, _||_, or-false}
 use mathlib.Core.List.{List}
-use borrow.Author.Tests.{lt-ltb, le-ltb}
+use lib.Dec.{ltb}
+use borrow.Author.Tests.{eq-eqb, ne-eqb, lt-ltb, le-ltb}
 use Rattle.facts.specs.Tests.{either, either-left, either-right, neither, none-of}
-use Rattle.places.specs.Places.{places}
+use Rattle.places.specs.Places.{places, countActive}
 use Rattle.places.specs.PlacesLaws.{NoneBelow}
 use Rattle.entitlements.specs.declared.Account.{Account}
-use Rattle.entitlements.specs.Entitlements.{accountOf, twiceAt, noCodeAt, somewhere, largest, noAccount}
+use Rattle.entitlements.specs.Entitlements.{accountOf, twiceAt, noCodeAt, somewhere, largest, miscounted, noAccount}
 use Rattle.entitlements.specs.Active.{at-somewhere, nowhere}
 
--- An account by its arrays: the last number has no part in whether a place is refused
+-- An account by its arrays: the last number and the total have no part in whether a place is refused
 abbrev pub unnumbered : List ℕ → List ℕ → List ℕ → Account
-unnumbered high low active = accountOf high low active 0
+unnumbered high low active = accountOf high low active 0 0
 
 -- Whether a place has a code that is active at a lower one too, or a content that is no code
 abbrev pub badAt : Account → ℕ → Bool
@@ -42,12 +43,20 @@ module _ (account : Account) where
       apart : (k : ℕ) → k < places → (twiceAt account k ≡ false) × (noCodeAt account k ≡ false)
       apart k l = neither (twiceAt account k) (noCodeAt account k) (p .none k (omega arith))
 
-  -- 40, by the last number or by a place
+  -- 40, by the last number, by the total or by a place
   pub last-large : largest < account .last → noAccount account ≡ true
   unfolding noAccount
   last-large h =
-      either-right (somewhere (twiceAt account)) (either-right (somewhere (noCodeAt account)) (lt-ltb largest (account .last) h))
+      either-right (somewhere (twiceAt account))
+      (either-right (somewhere (noCodeAt account)) (either-left (miscounted account) (lt-ltb largest (account .last) h)))
 
-  pub last-within : account .last ≤ largest → noAccount account ≡ badPlace account
+  pub total-other : (countActive (account .active) ≡ account .total → ⊥) → noAccount account ≡ true
   unfolding noAccount
-  last-within h = rw (le-ltb largest (account .last) h, or-false)
+  total-other n =
+      let other = ap not (ne-eqb (account .total) (countActive (account .active)) (λ e. n (sym e))) in
+      either-right (somewhere (twiceAt account))
+      (either-right (somewhere (noCodeAt account)) (either-right (ltb largest (account .last)) other))
+
+  pub numbers-right : account .last ≤ largest → countActive (account .active) ≡ account .total → noAccount account ≡ badPlace account
+  unfolding noAccount
+  numbers-right h e = rw (le-ltb largest (account .last) h, eq-eqb (account .total) (countActive (account .active)) (sym e), or-false)

@@ -60,6 +60,9 @@ fn no_account(account: Account) -> bool
     if account.last > entitlements::LARGEST {
         return true;
     }
+    if places::count_active(&account.active) != account.total {
+        return true;
+    }
     bad_place(&account.high, &account.low, &account.active)
 }
 
@@ -76,6 +79,7 @@ fn stepped(account: Account, step: Step) -> Account
         low,
         active,
         last: step.last,
+        total: step.total,
     }
 }
 
@@ -95,6 +99,7 @@ pub fn send(kind: Kind, account: Account, text: &[u8], number: u64) -> Answered
         &account.low,
         &account.active,
         account.last,
+        account.total,
         text,
         number,
     );

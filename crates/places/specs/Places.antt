@@ -1,4 +1,5 @@
--- The places of an account (document 02, request 3): what is free, what has a code active, and the lowest such place. Assumes nothing.
+-- The places of an account (document 02, requests 3 and 5): what is free, what has a code active, the lowest such place, and how many are
+-- active. Assumes nothing.
 use Prim.Native.Nat.{ℕ, zero, suc}
 use mathlib.Core.Bool.{Bool, cond, not, _&&_}
 use mathlib.Core.List.{List}
@@ -35,3 +36,12 @@ lowestFrom (suc n) from test = cond (test from) from (lowestFrom n (suc from) te
 -- The lowest place that passes a test, 256 where none does
 unfoldable pub lowestPlace : (ℕ → Bool) → ℕ
 lowestPlace test = lowestFrom places 0 test
+
+-- How many numbers below n pass a test
+unfoldable pub countBelow : (ℕ → Bool) → ℕ → ℕ
+countBelow test zero = 0
+countBelow test (suc n) = cond (test n) (suc (countBelow test n)) (countBelow test n)
+
+-- "the full count": how many of the 256 places are active
+unfoldable pub countActive : List ℕ → ℕ
+countActive active = countBelow (λ i. not (isFree active i)) places

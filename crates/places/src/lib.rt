@@ -1,9 +1,9 @@
-// The places of an account: 256 of activity, with the halves of a code each. Searched from place 0 up;
-// where none is found the answer is 256.
+// The places of an account: 256 of activity, with the halves of a code each. Searched from place 0 up,
+// where none is found the answer is 256; and counted.
 ghost use mathlib.Core.Path.{_≡_};
 ghost use mathlib.Core.Bool.{not, _&&_};
 ghost use lib.Dec.{eqb};
-ghost use Rattle.places.specs.Places.{isFree, hasLow, holds, lowestPlace};
+ghost use Rattle.places.specs.Places.{isFree, hasLow, holds, lowestPlace, countActive};
 use halves::Halves;
 
 // How many places an account has.
@@ -87,4 +87,19 @@ pub fn code_place<'a>(
         return first;
     }
     full_search(high, low, active, code)
+}
+
+// How many places are active.
+pub fn count_active(active: &[u64; PLACES]) -> u64
+    ensures { λ r. ⌜ r ≡ countActive (now (active .entry)) ⌝ }
+{
+    let mut count = 0;
+    let mut i = 0;
+    while i < PLACES {
+        if active[i] != 0 {
+            count += 1;
+        }
+        i += 1;
+    }
+    count
 }
