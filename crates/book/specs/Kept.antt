@@ -10,7 +10,7 @@ use lib.Dec.{eqb, ltb}
 use lib.ListN.{length}
 use Rattle.facts.specs.Texts.{bytes, sameText}
 use Rattle.entitlements.specs.declared.Account.{Account}
-use Rattle.entitlements.specs.Entitlements.{empty, countActive, Answering, processing, message}
+use Rattle.entitlements.specs.Entitlements.{empty, Answering, processing, message}
 use Rattle.entitlements.specs.Outcomes.{Spoken, in-words, by-number, message-spoken}
 use Rattle.history.specs.History.{Message, after, sent, one, times, Kept}
 use Rattle.history.specs.HistoryLaws.{after-append, sent-append, times-append, kept}

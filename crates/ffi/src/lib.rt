@@ -1,8 +1,8 @@
 // The library for other languages: coding by either road, reading, writing and the two messages to an
 // account under C's names. Each function hands its input to the crate that does the work and says the
 // reply in numbers. The definitions are in specs/: the replies in Replies.antt, their laws in
-// Replying.antt, and in Once.antt that no second reply would do. An account crosses as three lent arrays
-// and its last number: for that they are in `lending`.
+// Replying.antt, and in Once.antt that no second reply would do. An account crosses as three lent arrays,
+// its last number and its total, which a caller asks by looking at it: for that they are in `lending`.
 ghost use mathlib.Core.Path.{_≡_};
 ghost use Rattle.code.specs.Code.{reading, writing, tells as Code·tells, tellsNothing};
 ghost use Rattle.unit.specs.Unit.{kindOf, coding};
@@ -149,13 +149,14 @@ pub extern "C" fn linenspruce_activate(
     low: &mut [u64],
     active: &mut [u64],
     last: u64,
+    total: u64,
     text: &[u8],
     number: u64,
 ) -> Lent
-    ensures { λ r. ⌜ lends r (now (high .exit)) (now (low .exit)) (now (active .exit)) ≡ lending Activate (now (high .entry)) (now (low .entry)) (now (active .entry)) last (now (text .entry)) number ⌝ }
+    ensures { λ r. ⌜ lends r (now (high .exit)) (now (low .exit)) (now (active .exit)) ≡ lending Activate (now (high .entry)) (now (low .entry)) (now (active .entry)) last total (now (text .entry)) number ⌝ }
 {
     let activate = entitlements::Kind::Activate;
-    lending::send_lent(activate, high, low, active, last, text, number)
+    lending::send_lent(activate, high, low, active, last, total, text, number)
 }
 
 // Cancels a code, likewise.
@@ -165,11 +166,12 @@ pub extern "C" fn linenspruce_cancel(
     low: &mut [u64],
     active: &mut [u64],
     last: u64,
+    total: u64,
     text: &[u8],
     number: u64,
 ) -> Lent
-    ensures { λ r. ⌜ lends r (now (high .exit)) (now (low .exit)) (now (active .exit)) ≡ lending Cancel (now (high .entry)) (now (low .entry)) (now (active .entry)) last (now (text .entry)) number ⌝ }
+    ensures { λ r. ⌜ lends r (now (high .exit)) (now (low .exit)) (now (active .exit)) ≡ lending Cancel (now (high .entry)) (now (low .entry)) (now (active .entry)) last total (now (text .entry)) number ⌝ }
 {
     let cancel = entitlements::Kind::Cancel;
-    lending::send_lent(cancel, high, low, active, last, text, number)
+    lending::send_lent(cancel, high, low, active, last, total, text, number)
 }

@@ -1,4 +1,4 @@
--- A history of messages with their answers, computed from the definitions (document 02, request 3). Assumes nothing.
+-- A history of messages with their answers and totals, computed from the definitions (document 02, requests 3 and 5). Assumes nothing.
 use Prim.Native.Nat.{ℕ}
 use Prim.Native.String.{String}
 use mathlib.Core.Bool.{Bool, true, _&&_}
@@ -9,13 +9,13 @@ use Rattle.location.specs.Location.{latters}
 use Rattle.spelling.specs.Spelling.{textChecks, numbersIn}
 use Rattle.code.specs.Code.{fieldsIn, locationChecks, spanChecks, readingNumbers, reading}
 use Rattle.halves.specs.Halves.{isCode}
-use Rattle.places.specs.Places.{lowestPlace}
+use Rattle.places.specs.Places.{lowestPlace, countBelow, countActive}
 use Rattle.entitlements.specs.declared.Account.{Account}
 use Rattle.entitlements.specs.declared.Kind.{Kind}
 use Rattle.entitlements.specs.declared.Kind.the-variants.{Activate, Cancel}
 use Rattle.entitlements.specs.Entitlements.{
   empty,
-  countActive,
+  accountOf,
   Answering,
   activated,
   already,
@@ -31,16 +31,16 @@ use Rattle.entitlements.specs.Entitlements.{
   message,
 }
 
--- A message, its answer, and how many codes are active afterwards
+-- A message, its answer, and the total afterwards
 pub record Example : Type 0 where
   pub kind : Kind
   pub number : ℕ
   pub text : String
   pub answer : Answering
-  pub active : ℕ
+  pub total : ℕ
 
 abbrev is : Kind → ℕ → String → Answering → ℕ → Example
-is kind number text answer active = record { kind = kind; number = number; text = text; answer = answer; active = active }
+is kind number text answer total = record { kind = kind; number = number; text = text; answer = answer; total = total }
 
 -- Sent one by one to an empty account
 abbrev pub examples : List Example
@@ -61,21 +61,25 @@ examples =
     ∷ is Cancel 1099511627775 "000000XCYYYNEDDE0000" old 2
     ∷ []
 
+-- An empty account but for a total of 1
+abbrev pub miscount : Account
+miscount = accountOf (empty .high) (empty .low) (empty .active) 0 1
+
 -- Whether answers are the same
 abbrev sameAnswer : Answering → Answering → Bool
 sameAnswer a b = eqb (a .number) (b .number) && sameText (a .words) (b .words)
 
 -- Whether a message did so, and what follows is so of the account afterwards
 abbrev did : Example → (Account → Bool) → Done → Bool
-did x later d = sameAnswer (d .answer) (x .answer) && (eqb (countActive (d .account .active)) (x .active) && later (d .account))
+did x later d = sameAnswer (d .answer) (x .answer) && (eqb (d .account .total) (x .total) && later (d .account))
 
 -- Whether messages do so from an account on
 abbrev so : List Example → Account → Bool
 so [] account = true
 so (x ∷ later) account = did x (so later) (message (x .kind) account (bytes (x .text)) (x .number))
 
--- as the definitions compute them
-pub computed : T (so examples empty)
+-- as the definitions compute them; and one account is refused by 40, for its total
+pub computed : T (so examples empty && so (is Activate 5 "0W7ARCTDHYYRA99A0001" (refusal 40) 1 ∷ []) miscount)
 unfolding latters
     textChecks
     numbersIn
@@ -86,6 +90,8 @@ unfolding latters
     reading
     isCode
     lowestPlace
+    countBelow
+    countActive
     activation
     cancellation
     processing

@@ -1,4 +1,4 @@
--- The history of an account (document 02, request 3), in the request's words: messages sent one by one, what they were answered, and
+-- The history of an account (document 02, requests 3 and 5), in the requests' words: messages sent one by one, what they were answered, and
 -- what is said to hold after any of them from empty. HistoryLaws.antt proves it. Assumes nothing.
 use Prim.Native.Nat.{ℕ, _+_, _-_, _≤_, _<_}
 use mathlib.Core.Path.{_≡_}
@@ -10,12 +10,12 @@ use Rattle.facts.specs.Lists.{Each}
 use Rattle.facts.specs.Texts.{bytes, sameText}
 use Rattle.halves.specs.declared.Halves.{Halves}
 use Rattle.halves.specs.Halves.{halvesIn, sameCode, isCode}
-use Rattle.places.specs.Places.{places}
+use Rattle.places.specs.Places.{places, countActive}
 use Rattle.entitlements.specs.declared.Account.{Account}
 use Rattle.entitlements.specs.declared.Answered.{Answered}
 use Rattle.entitlements.specs.declared.Kind.{Kind}
 use Rattle.entitlements.specs.declared.Kind.the-variants.{Activate, Cancel}
-use Rattle.entitlements.specs.Entitlements.{codeAt, activeAt, isActive, countActive, Answering, says, Done, does, largest, message}
+use Rattle.entitlements.specs.Entitlements.{codeAt, activeAt, isActive, Answering, says, Done, does, largest, message}
 
 -- ---- messages sent one by one
 
@@ -91,8 +91,10 @@ times words (s ∷ later) = one words (s .answer) + times words later
 pub record Kept (account : Account) (all : List Sent) : Type 0 where
   -- "the active codes are exactly those whose latest processed activation or cancellation, with "full" ones passed over, was an activation"
   pub active : (code : Halves) → isActive account code ≡ latest code false all
+  -- "From an empty account it equals the full count after every message, refused ones too"
+  pub total : account .total ≡ countActive (account .active)
   -- "and their number is the "activated" answers less the "cancelled" ones": of which there are no more
-  pub number : countActive (account .active) ≡ times (bytes "activated") all - times (bytes "cancelled") all
+  pub number : account .total ≡ times (bytes "activated") all - times (bytes "cancelled") all
   pub fewer : times (bytes "cancelled") all ≤ times (bytes "activated") all
   -- No code is active at two places
   pub single : (i j : ℕ) → i < places → j < places → activeAt account i ≡ true → activeAt account j ≡ true

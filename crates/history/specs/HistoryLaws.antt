@@ -11,10 +11,11 @@ use Rattle.facts.specs.Lists.{Each}
 use Rattle.facts.specs.Texts.{bytes}
 use Rattle.halves.specs.declared.Halves.{Halves}
 use Rattle.halves.specs.Halves.{halvesIn, sameCode}
+use Rattle.places.specs.Places.{countActive}
 use Rattle.entitlements.specs.declared.Account.{Account}
 use Rattle.entitlements.specs.declared.Answered.{Answered}
 use Rattle.entitlements.specs.declared.Kind.{Kind}
-use Rattle.entitlements.specs.Entitlements.{empty, isActive, countActive, Done, message, processing}
+use Rattle.entitlements.specs.Entitlements.{empty, isActive, Done, message, processing}
 use Rattle.entitlements.specs.Active.{same-code}
 use Rattle.entitlements.specs.Sound.{Sound, empty-sound, empty-active, empty-count, message-processing}
 use Rattle.entitlements.specs.Changes.{taken-active, taken-count, cleared-active, cleared-count}
@@ -219,7 +220,8 @@ times-append words (s ∷ later) more = omega (arith, times-append words later m
 pub kept : (messages : List Message) → Kept (after empty messages) (sent empty messages)
 kept messages = record {
   active = λ code. after-active messages empty-sound code ∙ ap (λ (b : Bool). latest code b (sent empty messages)) (empty-active code);
-  number = omega (arith, after-count messages empty-sound, empty-count);
+  total = after-sound messages empty-sound .counted;
+  number = omega (arith, after-sound messages empty-sound .counted, after-count messages empty-sound, empty-count);
   fewer = omega (arith, after-count messages empty-sound, empty-count);
   single = after-sound messages empty-sound .single;
   read = after-sound messages empty-sound .read;

@@ -1,5 +1,5 @@
--- A message to an account that is lent as three arrays and a number (document 02, request 3, for callers who cannot hand an account over
--- by value). Assumes nothing.
+-- A message to an account that is lent as three arrays and two numbers (document 02, requests 3 and 5, for callers who cannot hand an
+-- account over by value). Assumes nothing.
 use Prim.Native.Nat.{ℕ}
 use mathlib.Core.Bool.{Bool, cond, _&&_}
 use mathlib.Core.List.{List}
@@ -15,10 +15,10 @@ abbrev pub isAccount : List ℕ → List ℕ → List ℕ → Bool
 isAccount high low active = eqb (length high) places && (eqb (length low) places && eqb (length active) places)
 
 -- A message: 40 for arrays that are no account, and all is as it was lent
-unfoldable pub lending : Kind → List ℕ → List ℕ → List ℕ → ℕ → List ℕ → ℕ → Done
-lending kind high low active last text number =
-    cond (isAccount high low active) (message kind (accountOf high low active last) text number)
-    (done (refusal 40) (accountOf high low active last))
+unfoldable pub lending : Kind → List ℕ → List ℕ → List ℕ → ℕ → ℕ → List ℕ → ℕ → Done
+lending kind high low active last total text number =
+    cond (isAccount high low active) (message kind (accountOf high low active last total) text number)
+    (done (refusal 40) (accountOf high low active last total))
 
 -- The answer by its number: 1 to 5 by the words, and a refusal by its own
 abbrev pub answering : ℕ → Answering
@@ -29,4 +29,4 @@ answering n =
 
 -- What a function answers, and leaves in the arrays
 abbrev pub lends : Lent → List ℕ → List ℕ → List ℕ → Done
-lends r high low active = done (answering (r .answer)) (accountOf high low active (r .last))
+lends r high low active = done (answering (r .answer)) (accountOf high low active (r .last) (r .total))

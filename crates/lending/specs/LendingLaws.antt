@@ -43,9 +43,9 @@ module _ (from : List ℕ) (all : length from ≡ places) where
   copied-end {array} {i} p h =
       sym (take-all i array (omega (arith, p .long))) ∙ p .same ∙ take-all i from (omega (arith, all))
 
-module _ (kind : Kind) (high low active : List ℕ) (last : ℕ) (text : List ℕ) (number : ℕ) where
+module _ (kind : Kind) (high low active : List ℕ) (last total : ℕ) (text : List ℕ) (number : ℕ) where
   abbrev Refuses : Type 0
-  Refuses = lending kind high low active last text number ≡ done (refusal 40) (accountOf high low active last)
+  Refuses = lending kind high low active last total text number ≡ done (refusal 40) (accountOf high low active last total)
 
   -- An array of another length is no account
   pub lending-high : (length high ≡ places → ⊥) → Refuses
@@ -62,15 +62,15 @@ module _ (kind : Kind) (high low active : List ℕ) (last : ℕ) (text : List �
 
   -- Three of 256 places are one
   pub lending-sends : length high ≡ places → length low ≡ places → length active ≡ places
-      → lending kind high low active last text number ≡ message kind (accountOf high low active last) text number
+      → lending kind high low active last total text number ≡ message kind (accountOf high low active last total) text number
   unfolding lending
   lending-sends h l a = rw (eq-eqb (length high) places h, eq-eqb (length low) places l, eq-eqb (length active) places a)
 
   -- and whatever keeps the promise of the message has 256 places afterwards
   pub sends-sized : length high ≡ places → length low ≡ places → length active ≡ places → (r : Answered) {account : Account}
-      → account ≡ accountOf high low active last → does r ≡ message kind account text number → Sized (r .account)
+      → account ≡ accountOf high low active last total → does r ≡ message kind account text number → Sized (r .account)
   sends-sized h l a r {account} e so =
-      let whole : does r ≡ message kind (accountOf high low active last) text number =
+      let whole : does r ≡ message kind (accountOf high low active last total) text number =
       so ∙ ap (λ (from : Account). message kind from text number) e in
       subst (λ (d : Done). Sized (d .account)) (sym whole)
-      (message-sized kind (accountOf high low active last) text number (record { highs = h; lows = l; actives = a }))
+      (message-sized kind (accountOf high low active last total) text number (record { highs = h; lows = l; actives = a }))

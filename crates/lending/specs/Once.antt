@@ -8,6 +8,7 @@ use lib.Dec.{eqb}
 use lib.ListN.{length, getD}
 use borrow.Author.Tests.{eqb-true}
 use Rattle.facts.specs.Once.{once}
+use Rattle.entitlements.specs.declared.Account.{Account}
 use Rattle.entitlements.specs.Entitlements.{Answering, Done}
 use Rattle.lending.specs.declared.Lent.{Lent}
 use Rattle.lending.specs.Lending.{answering, lends}
@@ -40,8 +41,8 @@ number-found n = at (eqb n 1) (eqb n 2) (eqb n 3) (eqb n 4) (eqb n 5) (eqb n 43)
     at false false false false false true p q r s t u = rw (p, q, r, s, t, u) (sym (eqb-true n 43 u))
     at false false false false false false p q r s t u = rw (p, q, r, s, t, u) (own (eqb n 0) refl)
 
-abbrev lentOf : ℕ → ℕ → Lent
-lentOf answer last = record { answer = answer; last = last }
+abbrev lentOf : ℕ → Account → Lent
+lentOf answer account = record { answer = answer; last = account .last; total = account .total }
 
 -- Two answers, and arrays afterwards, that meet the promise are the same
 pub lent-once : (d : Done) (r s : Lent) (high other-high low other-low active other-active : List ℕ) → lends r high low active ≡ d
@@ -49,7 +50,7 @@ pub lent-once : (d : Done) (r s : Lent) (high other-high low other-low active ot
 lent-once d r s high other-high low other-low active other-active e k =
     let same = once e k in
     let number = sym (number-found (r .answer)) ∙ ap (λ (x : Done). numberOf (x .answer)) same ∙ number-found (s .answer) in (
-      ap₂ lentOf number (ap (λ (x : Done). x .account .last) same),
+      ap₂ lentOf number (ap (λ (x : Done). x .account) same),
       ap (λ (x : Done). x .account .high) same,
       ap (λ (x : Done). x .account .low) same,
       ap (λ (x : Done). x .account .active) same,

@@ -1,4 +1,4 @@
-// An account lent as three arrays and its last number, for callers who cannot hand one over by value.
+// An account lent as three arrays, its last number and its total, for callers who cannot hand one over by value.
 // Arrays of another length than 256 are no account: 40.
 ghost use mathlib.Core.Path.{_≡_};
 ghost use lib.ListN.{length};
@@ -10,12 +10,13 @@ use entitlements::Answer;
 use entitlements::Kind;
 use places::PLACES;
 
-// What a message to a lent account is answered, by a number, and the last number afterwards. Laid out as
-// in C, so that callers in other languages can have it.
+// What a message to a lent account is answered, by a number, and the last number and the total afterwards.
+// Laid out as in C, so that callers in other languages can have it.
 #[repr(C)]
 pub struct Lent {
     pub answer: u32,
     pub last: u64,
+    pub total: u64,
 }
 
 // The number of an answer: 1 to 5 by the words, a refusal's own otherwise.
@@ -50,11 +51,11 @@ fn array_of(lent: &[u64]) -> [u64; PLACES]
 }
 
 // A lent account by value.
-fn taken_in(high: &[u64], low: &[u64], active: &[u64], last: u64) -> Account
+fn taken_in(high: &[u64], low: &[u64], active: &[u64], last: u64, total: u64) -> Account
     requires { ⌜ length (now high) ≡ places ⌝ }
     requires { ⌜ length (now low) ≡ places ⌝ }
     requires { ⌜ length (now active) ≡ places ⌝ }
-    ensures { λ r. ⌜ r ≡ accountOf (now (high .entry)) (now (low .entry)) (now (active .entry)) last ⌝ }
+    ensures { λ r. ⌜ r ≡ accountOf (now (high .entry)) (now (low .entry)) (now (active .entry)) last total ⌝ }
 {
     let high = array_of(high);
     let low = array_of(low);
@@ -64,6 +65,7 @@ fn taken_in(high: &[u64], low: &[u64], active: &[u64], last: u64) -> Account
         low,
         active,
         last,
+        total,
     }
 }
 
@@ -87,21 +89,34 @@ pub fn send_lent(
     low: &mut [u64],
     active: &mut [u64],
     last: u64,
+    total: u64,
     text: &[u8],
     number: u64,
 ) -> Lent
-    ensures { λ r. ⌜ lends r (now (high .exit)) (now (low .exit)) (now (active .exit)) ≡ lending kind (now (high .entry)) (now (low .entry)) (now (active .entry)) last (now (text .entry)) number ⌝ }
+    ensures { λ r. ⌜ lends r (now (high .exit)) (now (low .exit)) (now (active .exit)) ≡ lending kind (now (high .entry)) (now (low .entry)) (now (active .entry)) last total (now (text .entry)) number ⌝ }
 {
     if high.len() != PLACES {
-        return Lent { answer: 40, last };
+        return Lent {
+            answer: 40,
+            last,
+            total,
+        };
     }
     if low.len() != PLACES {
-        return Lent { answer: 40, last };
+        return Lent {
+            answer: 40,
+            last,
+            total,
+        };
     }
     if active.len() != PLACES {
-        return Lent { answer: 40, last };
+        return Lent {
+            answer: 40,
+            last,
+            total,
+        };
     }
-    let answered = message::send(kind, taken_in(high, low, active, last), text, number);
+    let answered = message::send(kind, taken_in(high, low, active, last, total), text, number);
     let said = answered.answer;
     let answer = answer_code(said);
     let next = answered.account;
@@ -114,5 +129,6 @@ pub fn send_lent(
     Lent {
         answer,
         last: next.last,
+        total: next.total,
     }
 }

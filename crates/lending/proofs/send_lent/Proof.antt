@@ -12,21 +12,21 @@ returns : tie.Need-returns
 returns c =
     let asked = c .before .before .before .before .before .args in
     sym
-    (lending-high (asked .kind) (asked .high .now) (asked .low .now) (asked .active .now) (asked .last) (asked .text .now) (asked .number)
+    (lending-high (asked .kind) (asked .high .now) (asked .low .now) (asked .active .now) (asked .last) (asked .total) (asked .text .now) (asked .number)
     (c .if1 .taken))
 
 returns-2 : tie.Need-returns-2
 returns-2 c =
     let asked = c .before .before .before .before .before .before .args in
     sym
-    (lending-low (asked .kind) (asked .high .now) (asked .low .now) (asked .active .now) (asked .last) (asked .text .now) (asked .number)
+    (lending-low (asked .kind) (asked .high .now) (asked .low .now) (asked .active .now) (asked .last) (asked .total) (asked .text .now) (asked .number)
     (c .if2 .taken))
 
 returns-3 : tie.Need-returns-3
 returns-3 c =
     let asked = c .before .before .before .before .before .before .before .args in
     sym
-    (lending-active (asked .kind) (asked .high .now) (asked .low .now) (asked .active .now) (asked .last) (asked .text .now)
+    (lending-active (asked .kind) (asked .high .now) (asked .low .now) (asked .active .now) (asked .last) (asked .total) (asked .text .now)
     (asked .number) (c .if3 .taken))
 
 taken-in-requires : tie.Need-taken-in-requires
@@ -51,7 +51,7 @@ hand-back-requires-3 c κs =
     let two = three .before in
     let one = two .before in
     let asked = one .before .before .before .before .before .args in
-    let sized = sends-sized (asked .kind) (asked .high .now) (asked .low .now) (asked .active .now) (asked .last) (asked .text .now)
+    let sized = sends-sized (asked .kind) (asked .high .now) (asked .low .now) (asked .active .now) (asked .last) (asked .total) (asked .text .now)
     (asked .number) (one .if1 .left) (two .if2 .left) (three .if3 .left) (sent .send .result) (sent .before .taken-in .ensures)
     (sent .send .ensures) in
     (search needs, sized .actives)
@@ -76,7 +76,7 @@ returns-4 c =
     let two = three .before in
     let one = two .before in
     let asked = one .before .before .before .before .before .args in
-    let sends = lending-sends (asked .kind) (asked .high .now) (asked .low .now) (asked .active .now) (asked .last) (asked .text .now)
+    let sends = lending-sends (asked .kind) (asked .high .now) (asked .low .now) (asked .active .now) (asked .last) (asked .total) (asked .text .now)
     (asked .number) (one .if1 .left) (two .if2 .left) (three .if3 .left) in
     rw (first .hand-back .ensures, second .hand-back2 .ensures, third .hand-back3 .ensures)
     (ap (λ (answer : Answering). done answer (sent .send .result .account)) (coded .answer-code .ensures)
