@@ -1,10 +1,12 @@
 //! The fixed requests with a message, at every border of request 3: accounts, message
-//! numbers, texts, the order of the checks, and malformed ones.
+//! numbers, texts, the order of the checks, and malformed ones. Their totals are right; those
+//! for the total stand among them.
 
 use std::io::{self, Write};
 
 use super::accounts::{message_line, place};
 use super::borders::print_lines;
+use super::bordertotals::border_totals;
 use super::texts::Code;
 use crate::program::account::{Account, Place, HALF_END, MESSAGE_MAX, PLACES};
 use crate::program::code::LETTERS;
@@ -59,7 +61,7 @@ pub const TEXTS: [&[u8]; 20] = [
     b"                    ",
 ];
 
-type Lines = Vec<Vec<u8>>;
+pub type Lines = Vec<Vec<u8>>;
 
 /// Prints the list. Its last line has no line feed.
 pub fn border_messages(output: &mut impl Write) -> io::Result<()> {
@@ -75,6 +77,7 @@ pub fn border_messages(output: &mut impl Write) -> io::Result<()> {
         texts(),
         orders(),
         full(),
+        border_totals(),
         malformed(),
         long(),
         vec![message_line('A', 1, &Account::empty(), &[], CODES[0])],
@@ -83,7 +86,7 @@ pub fn border_messages(output: &mut impl Write) -> io::Result<()> {
 }
 
 /// An account with these places and their count.
-fn account(last: u64, places: &[(usize, Place)]) -> Account {
+pub fn account(last: u64, places: &[(usize, Place)]) -> Account {
     let mut account = Account { last, ..Account::empty() };
     for &(at, place) in places {
         account.places[at] = place;
@@ -93,7 +96,7 @@ fn account(last: u64, places: &[(usize, Place)]) -> Account {
 }
 
 /// Both kinds of message with the next number.
-fn both(account: &Account, text: &[u8]) -> Lines {
+pub fn both(account: &Account, text: &[u8]) -> Lines {
     let number = account.last.saturating_add(1);
     ['A', 'C'].map(|kind| message_line(kind, number, account, &[], text)).to_vec()
 }

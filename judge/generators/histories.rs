@@ -93,6 +93,7 @@ fn ending(codes: &[Code]) -> Vec<Vec<u8>> {
         line_of('C', MESSAGE_MAX - 1, one),
         line_of('A', MESSAGE_MAX, &one[1..]),
         line_of('A', MESSAGE_MAX, two),
+        asking(),
         line_of('A', MESSAGE_MAX, two),
         line_of('C', MESSAGE_MAX, two),
         line_of('C', MESSAGE_MAX + 1, two),
@@ -101,6 +102,7 @@ fn ending(codes: &[Code]) -> Vec<Vec<u8>> {
         line_of('C', 1, two),
         line_of('C', MESSAGE_MAX, b""),
         b"C 18446744073709551616 ".to_vec(),
+        asking(),
         line_of('C', MESSAGE_MAX, one),
     ]
 }

@@ -30,17 +30,17 @@ fn sent(account: &Account, kind: Kind, number: u64, text: &[u8]) -> (String, Acc
     (said, after)
 }
 
-fn activate(account: &Account, number: u64, text: &[u8]) -> (String, Account) {
+pub fn activate(account: &Account, number: u64, text: &[u8]) -> (String, Account) {
     sent(account, Kind::Activate, number, text)
 }
 
-fn cancel(account: &Account, number: u64, text: &[u8]) -> (String, Account) {
+pub fn cancel(account: &Account, number: u64, text: &[u8]) -> (String, Account) {
     sent(account, Kind::Cancel, number, text)
 }
 
 /// An account with these codes in these places, and as a total how many of them are
 /// active.
-fn with(last: u64, places: &[(usize, u64, &[u8])]) -> Account {
+pub fn with(last: u64, places: &[(usize, u64, &[u8])]) -> Account {
     let total = places.iter().filter(|place| place.1 != 0).count() as u64;
     let mut account = Account { last, total, ..Account::empty() };
     for &(at, activity, text) in places {
@@ -50,7 +50,7 @@ fn with(last: u64, places: &[(usize, u64, &[u8])]) -> Account {
     account
 }
 
-fn is(got: (String, Account), said: &str, after: &Account) -> bool {
+pub fn is(got: (String, Account), said: &str, after: &Account) -> bool {
     got == (said.to_string(), *after)
 }
 
@@ -265,7 +265,7 @@ fn met(counts: &BTreeMap<String, usize>, names: &str, least: usize) -> bool {
 const REQUESTED: &str = "40 41 42 43 ? activated already cancelled not-active old";
 const REPLIED: &str = "10 41 42 43 9 activated already cancelled not old total";
 
-/// The fixed and the random requests meet every answer, the random ones often.
+/// The fixed and the random messages meet every answer, the random ones often.
 pub fn requests_good() -> bool {
     let Some(share) = kinds_of("message") else {
         return false;
@@ -273,7 +273,10 @@ pub fn requests_good() -> bool {
     let (mut fixed, mut random) = (Vec::new(), Vec::new());
     let (mut answers, mut often) = (Vec::new(), Vec::new());
     // Writing into a Vec does not fail.
-    let _ = border_messages(&mut fixed).and_then(|()| trials(fixed.as_slice(), &mut answers));
+    let _ = border_messages(&mut fixed);
+    let fixed = fixed.split(|&byte| byte == b'\n').filter(|line| !line.starts_with(b"total"));
+    let fixed = fixed.collect::<Vec<&[u8]>>().join(&b'\n');
+    let _ = trials(fixed.as_slice(), &mut answers);
     let _ = requests(19, 4_000, &share, &mut random);
     let _ = trials(random.as_slice(), &mut often);
     let answered = counts(&often, 0);
