@@ -1,5 +1,6 @@
-//! Random requests with a message: accounts from empty to full, good and refused
-//! 40, with message numbers and texts on both sides of every border.
+//! Random requests with an account, a message to it or the asking for its total:
+//! accounts from empty to full, good and refused 40, with message numbers and texts on
+//! both sides of every border.
 
 use super::broken::broken;
 use super::random::Random;
@@ -38,9 +39,18 @@ pub fn message_line(
     also: &[usize],
     text: &[u8],
 ) -> Vec<u8> {
-    let listed = |at: usize| account.places[at] != Place::default() || also.contains(&at);
-    let start = format!("message {kind} {number} {} ", account_words(account, listed));
+    let start = format!("message {kind} {number} {} ", words_of(account, also));
     [start.as_bytes(), text].concat()
+}
+
+/// A `total` request's line, which lists the same places.
+pub fn total_line(account: &Account, also: &[usize]) -> Vec<u8> {
+    format!("total {}", words_of(account, also)).into_bytes()
+}
+
+fn words_of(account: &Account, also: &[usize]) -> String {
+    let listed = |at: usize| account.places[at] != Place::default() || also.contains(&at);
+    account_words(account, listed)
 }
 
 /// A place that holds a code; the letters may be refused by reading.
@@ -59,23 +69,70 @@ pub fn message_request(random: &mut Random) -> Vec<u8> {
     if random.one_in(8) {
         spoil(random, &mut drawn);
     }
+    drawn.account.total = drawn.account.count();
+    if random.one_in(10) {
+        drawn.account.total = wrong_total(random, &drawn.account);
+    }
     // A full account is for activations.
     let full = drawn.active.len() == PLACES;
     let kind = if full && random.one_in(2) { 'A' } else { random.pick(&['A', 'C']) };
     let text = text(random, &drawn);
-    let also: Vec<usize> = match random.below(8) {
-        0 => (0..random.index(6)).map(|_| random.index(PLACES)).collect(),
-        _ => Vec::new(),
-    };
+    let also = also_listed(random);
     let mut line = message_line(kind, number, &drawn.account, &also, &text);
     // Rarely as long as a line may be, or a byte longer.
     if random.one_in(1_000) {
         line.resize(LINE_MAX + random.index(2), b'0');
     }
     if random.one_in(30) {
-        return malformed(random, &line);
+        return malformed(random, &line, 3);
     }
     line
+}
+
+/// Asks for a total, which is as often wrong as right; one request in eight is
+/// malformed.
+pub fn total_request(random: &mut Random) -> Vec<u8> {
+    let mut drawn = account(random);
+    drawn.account.last = numbers(random).0;
+    if random.one_in(4) {
+        spoil(random, &mut drawn);
+    }
+    let any = random.below(u64::MAX);
+    drawn.account.total = match random.below(4) {
+        0..=1 => drawn.account.count(),
+        2 => wrong_total(random, &drawn.account),
+        _ => any,
+    };
+    let also = also_listed(random);
+    let line = total_line(&drawn.account, &also);
+    if random.one_in(8) {
+        return malformed(random, &line, 1);
+    }
+    line
+}
+
+/// Places that are listed even where they hold nothing, mostly none.
+fn also_listed(random: &mut Random) -> Vec<usize> {
+    if random.one_in(8) {
+        return (0..random.index(6)).map(|_| random.index(PLACES)).collect();
+    }
+    Vec::new()
+}
+
+/// A total that is not the count of the account's places: beside it, at the borders,
+/// of other things that could be counted, or right only in its low bits.
+fn wrong_total(random: &mut Random, account: &Account) -> u64 {
+    let count = account.count();
+    let all = account.places.iter();
+    let listed = all.clone().filter(|place| **place != Place::default()).count() as u64;
+    let ones = all.clone().filter(|place| place.activity == 1).count() as u64;
+    let sum = all.fold(0u64, |sum, place| sum.wrapping_add(place.activity));
+    let beside = [count + 1, count.saturating_sub(1)];
+    let borders = [0, 256, 257, u64::MAX, account.last];
+    let low = [count + 256, count | 1 << 32, count | 1 << 63];
+    let totals = [&beside[..], &beside, &beside, &borders, &low, &[listed, ones, sum]].concat();
+    let wrong: Vec<u64> = totals.into_iter().filter(|&total| total != count).collect();
+    random.pick(&wrong)
 }
 
 /// How many places are active; one time in eight all or nearly all.
@@ -217,17 +274,22 @@ fn text(random: &mut Random, drawn: &Drawn) -> Vec<u8> {
     }
 }
 
-/// A request that is nearly always of no good form.
-fn malformed(random: &mut Random, line: &[u8]) -> Vec<u8> {
+/// A request that is nearly always of no good form; its account begins at the word
+/// `start`.
+fn malformed(random: &mut Random, line: &[u8], start: usize) -> Vec<u8> {
     let mut words: Vec<Vec<u8>> = line.split(|&byte| byte == b' ').map(<[u8]>::to_vec).collect();
     let bad = random.pick(&BAD_NUMBERS).as_bytes().to_vec();
-    let at = random.index(words.len().min(9));
-    match random.below(6) {
+    let at = random.index(words.len().min(start + 7));
+    let (count, first, second) = (start + 2, start + 3, start + 7);
+    let two = words.len() > second;
+    match random.below(8) {
         0..=1 => return broken(random, line),
         2 => words[1] = random.pick(&["a", "c", "B", "", "AC", "A\t"]).into(),
-        3 => words[4] = random.pick(&["0", "1", "2", "255", "256", "257"]).into(),
-        4 if words.len() > 9 => words.swap(5, 9),
-        5 if words.len() > 9 => words[5] = random.pick(&["256", "255", "254"]).into(),
+        3 => words[count] = random.pick(&["0", "1", "2", "255", "256", "257"]).into(),
+        4 if two => words.swap(first, second),
+        5 if two => words[first] = random.pick(&["256", "255", "254"]).into(),
+        6 => words.push(random.pick(&["", "0", "1", "00000000001UY1120000"]).into()),
+        7 => words.truncate(words.len() - 1),
         _ => words[at] = bad,
     }
     words.join(&b' ')

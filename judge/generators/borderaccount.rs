@@ -1,19 +1,19 @@
 //! The fixed message lines for the program `account`, one history: every answer and
-//! refusal, numbers and texts at their borders, lines of another form or too long, and
-//! an account that is filled and emptied.
+//! refusal, numbers and texts at their borders, lines of another form or too long, an
+//! account that is filled and emptied, and the asking for the total after all these.
 
 use std::io::{self, Write};
 
 use super::bordermessages::{numbered, CODES, REFUSED, TEXTS};
 use super::borders::print_lines;
-use super::histories::line_of;
+use super::histories::{asking, line_of};
 use crate::program::account::{MESSAGE_MAX, PLACES};
 use crate::program::lines::LINE_MAX;
 
 type Lines = Vec<Vec<u8>>;
 
 /// Lines of another form than a message's; their numbers would be new ones.
-const MALFORMED: [&[u8]; 57] = [
+const MALFORMED: [&[u8]; 79] = [
     b"",
     b" ",
     b"  ",
@@ -71,6 +71,28 @@ const MALFORMED: [&[u8]; 57] = [
     b"C 20000000000000000000 00000000001UY1120000",
     b"A 100000000000000000000 00000000001UY1120000",
     b"A 00000000000000000005000 00000000001UY1120000",
+    b"T ",
+    b"T  ",
+    b" T",
+    b" T ",
+    b"t",
+    b"TT",
+    b"TA",
+    b"AT",
+    b"T T",
+    b"T\0",
+    b"T\t",
+    b"T\r",
+    b"\tT",
+    b"\xd4",
+    b"T 0",
+    b"T 1",
+    b"T 5000",
+    b"T 5000 ",
+    b"T 5000 00000000001UY1120000",
+    b"T 00000000001UY1120000",
+    b"A T 00000000001UY1120000",
+    b"total",
 ];
 
 /// The numbers that are used up here are all under 5,000, so that a random history can follow.
@@ -80,15 +102,20 @@ pub fn border_account(output: &mut impl Write) -> io::Result<()> {
     print_lines(&groups.concat(), output)
 }
 
+/// The lines, each with the asking for the total after it.
+fn asked(lines: Lines) -> Lines {
+    lines.into_iter().flat_map(|line| [line, asking()]).collect()
+}
+
 /// Lines that say each message to one code and another.
 fn said(messages: &[(char, u64, usize)]) -> Lines {
     messages.iter().map(|&(kind, number, code)| line_of(kind, number, CODES[code])).collect()
 }
 
-/// Every answer; `already` and `not active` use up their numbers, and equal ones are
-/// old.
+/// The total of an empty account, then every answer; `already` and `not active` use up
+/// their numbers, and equal ones are old.
 fn answers() -> Lines {
-    said(&[
+    let messages = said(&[
         ('C', 1, 0),
         ('A', 1, 0),
         ('A', 2, 0),
@@ -108,7 +135,8 @@ fn answers() -> Lines {
         ('C', 11, 0),
         ('C', 12, 1),
         ('C', 13, 2),
-    ])
+    ]);
+    [vec![asking()], asked(messages)].concat()
 }
 
 /// Numbers at their borders, none of which is used up; then one that is.
@@ -120,7 +148,7 @@ fn numbers() -> Lines {
         lines.push(line_of('C', number, b"no code"));
     }
     lines.extend(said(&[('A', 14, 0), ('A', 14, 1), ('C', 1, 0), ('A', 13, 0), ('A', 0, 0)]));
-    lines
+    asked(lines)
 }
 
 /// Texts that reading refuses, with a number that none of them uses up and with an
@@ -131,14 +159,16 @@ fn texts() -> Lines {
     for text in TEXTS.iter().copied().chain(letters) {
         lines.push(line_of('A', 15, text));
         lines.push(line_of('C', 14, text));
+        lines.push(asking());
     }
-    lines.extend(said(&[('C', 15, 0), ('A', 16, 0), ('C', 17, 0), ('C', 18, 0)]));
+    lines.extend(asked(said(&[('C', 15, 0), ('A', 16, 0), ('C', 17, 0), ('C', 18, 0)])));
     lines
 }
 
 fn malformed() -> Lines {
     let lines = MALFORMED.iter().map(|line| line.to_vec());
-    lines.chain(said(&[('A', 19, 0), ('A', 20, 0)])).collect()
+    let good = asked(said(&[('A', 19, 0), ('A', 20, 0)]));
+    lines.chain([asking()]).chain(good).collect()
 }
 
 /// Lines as long as a line may be, good and bad, and a byte longer; then whether
@@ -146,31 +176,35 @@ fn malformed() -> Lines {
 fn long() -> Lines {
     let good = line_of('C', 21, CODES[0]);
     let mut lines = Vec::new();
-    for (line, length) in [(&good, LINE_MAX), (&good, LINE_MAX + 1), (&b"c".to_vec(), LINE_MAX)] {
-        let mut line = line.clone();
-        line.resize(length, b'0');
-        lines.push(line);
+    for line in [&good, &asking()] {
+        for length in [LINE_MAX, LINE_MAX + 1] {
+            let mut line = line.clone();
+            line.resize(length, b'0');
+            lines.push(line);
+        }
     }
     lines.extend(said(&[('C', 21, 0), ('C', 21, 0)]));
-    lines
+    asked(lines)
 }
 
 /// Activations until all places are active and then two more; what a full account
 /// answers.
 fn filled() -> Lines {
-    let mut lines: Lines =
-        (0..PLACES + 2).map(|at| line_of('A', 100 + at as u64, &numbered(at))).collect();
+    let filling = (0..PLACES + 2).map(|at| line_of('A', 100 + at as u64, &numbered(at))).collect();
     let last = numbered(PLACES - 1);
-    lines.push(line_of('A', 357, CODES[1]));
-    lines.push(line_of('A', 358, &last));
-    lines.push(line_of('C', 359, CODES[1]));
-    lines.push(line_of('A', 359, CODES[1]));
-    lines.push(line_of('A', 360, REFUSED[0]));
-    lines.push(line_of('A', 0, CODES[1]));
-    lines.push(line_of('A', 360, CODES[1]));
-    lines.push(line_of('C', 360, &last));
-    lines.push(line_of('C', 361, &numbered(PLACES)));
-    lines
+    let full = vec![
+        line_of('A', 357, CODES[1]),
+        line_of('A', 358, &last),
+        line_of('C', 359, CODES[1]),
+        line_of('A', 359, CODES[1]),
+        line_of('A', 360, REFUSED[0]),
+        line_of('A', 0, CODES[1]),
+        b"A".to_vec(),
+        line_of('A', 360, CODES[1]),
+        line_of('C', 360, &last),
+        line_of('C', 361, &numbered(PLACES)),
+    ];
+    [asked(filling), asked(full)].concat()
 }
 
 /// Places cancelled and used again in another order, until the account is full once more.
@@ -185,7 +219,7 @@ fn reused() -> Lines {
     lines.push(line_of('C', 420, &numbered(1_002)));
     lines.push(line_of('A', 421, &numbered(0)));
     lines.push(line_of('A', 422, &numbered(200)));
-    lines
+    asked(lines)
 }
 
 /// Cancellations of all codes, some of which are not active, and a last activation.
@@ -196,5 +230,5 @@ fn emptied() -> Lines {
         lines.push(line_of('C', 1_001 + number as u64, &numbered(at)));
     }
     lines.push(line_of('A', 1_004, CODES[1]));
-    lines
+    asked(lines)
 }

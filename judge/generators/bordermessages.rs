@@ -1,10 +1,12 @@
 //! The fixed requests with a message, at every border of request 3: accounts, message
-//! numbers, texts, the order of the checks, and malformed ones.
+//! numbers, texts, the order of the checks, and malformed ones. Their totals are right; those
+//! for the total stand among them.
 
 use std::io::{self, Write};
 
 use super::accounts::{message_line, place};
 use super::borders::print_lines;
+use super::bordertotals::border_totals;
 use super::texts::Code;
 use crate::program::account::{Account, Place, HALF_END, MESSAGE_MAX, PLACES};
 use crate::program::code::LETTERS;
@@ -59,7 +61,7 @@ pub const TEXTS: [&[u8]; 20] = [
     b"                    ",
 ];
 
-type Lines = Vec<Vec<u8>>;
+pub type Lines = Vec<Vec<u8>>;
 
 /// Prints the list. Its last line has no line feed.
 pub fn border_messages(output: &mut impl Write) -> io::Result<()> {
@@ -75,6 +77,7 @@ pub fn border_messages(output: &mut impl Write) -> io::Result<()> {
         texts(),
         orders(),
         full(),
+        border_totals(),
         malformed(),
         long(),
         vec![message_line('A', 1, &Account::empty(), &[], CODES[0])],
@@ -82,17 +85,18 @@ pub fn border_messages(output: &mut impl Write) -> io::Result<()> {
     print_lines(&groups.concat(), output)
 }
 
-/// An account with these places.
-fn account(last: u64, places: &[(usize, Place)]) -> Account {
+/// An account with these places and their count.
+pub fn account(last: u64, places: &[(usize, Place)]) -> Account {
     let mut account = Account { last, ..Account::empty() };
     for &(at, place) in places {
         account.places[at] = place;
     }
+    account.total = account.count();
     account
 }
 
 /// Both kinds of message with the next number.
-fn both(account: &Account, text: &[u8]) -> Lines {
+pub fn both(account: &Account, text: &[u8]) -> Lines {
     let number = account.last.saturating_add(1);
     ['A', 'C'].map(|kind| message_line(kind, number, account, &[], text)).to_vec()
 }
@@ -283,6 +287,7 @@ fn full() -> Lines {
     let with = |at: usize, place: Place| {
         let mut account = full;
         account.places[at] = place;
+        account.total = account.count();
         message_line('A', 6, &account, &[], CODES[1])
     };
     vec![
@@ -300,7 +305,7 @@ fn full() -> Lines {
 }
 
 /// Requests of no good form, after the first word and its space.
-const MALFORMED: [&str; 41] = [
+const MALFORMED: [&str; 50] = [
     "",
     " ",
     "A",
@@ -308,54 +313,65 @@ const MALFORMED: [&str; 41] = [
     "A 1",
     "A 1 0",
     "A 1 0 0",
-    "a 1 0 0 ",
-    "c 1 0 0 ",
-    "B 1 0 0 ",
-    "AC 1 0 0 ",
-    " A 1 0 0 ",
-    "A  1 0 0 ",
-    "A 1  0 0 ",
-    "A 1 0  0 ",
-    "A\t1 0 0 ",
-    "A 1 0 0\t",
-    "A 01 0 0 ",
-    "A +1 0 0 ",
-    "A -1 0 0 ",
-    "A 18446744073709551616 0 0 ",
-    "A 1 00 0 ",
-    "A 1 18446744073709551616 0 ",
-    "A 1 0 00 ",
-    "A 1 0 -1 ",
-    "A 1 0 1 ",
-    "A 1 0 257 ",
-    "A 1 0 18446744073709551615 ",
-    "A 1 0 18446744073709551616 ",
-    "A 1 0 1 0 1 0",
-    "A 1 0 1 0 1 0 65937447321600",
-    "A 1 0 1 256 0 0 0 ",
-    "A 1 0 1 18446744073709551615 0 0 0 ",
-    "A 1 0 1 00 0 0 0 ",
-    "A 1 0 1 0 00 0 0 ",
-    "A 1 0 1 0 0 18446744073709551616 0 ",
-    "A 1 0 1 0 0 0 18446744073709551616 ",
-    "A 1 0 1 0 18446744073709551616 0 0 ",
-    "A 1 0 2 0 0 0 0 0 0 0 0 ",
-    "A 1 0 2 1 0 0 0 0 0 0 0 ",
-    "A 1 0 2 255 0 0 0 256 0 0 0 ",
+    "A 1 0 0 0",
+    "A 1 0 0 ",
+    "a 1 0 0 0 ",
+    "c 1 0 0 0 ",
+    "B 1 0 0 0 ",
+    "AC 1 0 0 0 ",
+    "T 1 0 0 0 ",
+    " A 1 0 0 0 ",
+    "A  1 0 0 0 ",
+    "A 1  0 0 0 ",
+    "A 1 0  0 0 ",
+    "A 1 0 0  0 ",
+    "A\t1 0 0 0 ",
+    "A 1 0\t0 0 ",
+    "A 1 0 0 0\t",
+    "A 01 0 0 0 ",
+    "A +1 0 0 0 ",
+    "A -1 0 0 0 ",
+    "A 18446744073709551616 0 0 0 ",
+    "A 1 00 0 0 ",
+    "A 1 18446744073709551616 0 0 ",
+    "A 1 0 00 0 ",
+    "A 1 0 -1 0 ",
+    "A 1 0 +0 0 ",
+    "A 1 0 18446744073709551616 0 ",
+    "A 1 0 0 00 ",
+    "A 1 0 0 -1 ",
+    "A 1 0 0 1 ",
+    "A 1 0 0 257 ",
+    "A 1 0 0 18446744073709551615 ",
+    "A 1 0 0 18446744073709551616 ",
+    "A 1 0 1 1 0 1 0",
+    "A 1 0 1 1 0 1 0 65937447321600",
+    "A 1 0 0 1 256 0 0 0 ",
+    "A 1 0 0 1 18446744073709551615 0 0 0 ",
+    "A 1 0 0 1 00 0 0 0 ",
+    "A 1 0 0 1 0 00 0 0 ",
+    "A 1 0 0 1 0 0 18446744073709551616 0 ",
+    "A 1 0 0 1 0 0 0 18446744073709551616 ",
+    "A 1 0 0 1 0 18446744073709551616 0 0 ",
+    "A 1 0 0 2 0 0 0 0 0 0 0 0 ",
+    "A 1 0 0 2 1 0 0 0 0 0 0 0 ",
+    "A 1 0 0 2 255 0 0 0 256 0 0 0 ",
 ];
 
 fn malformed() -> Lines {
     let code = CODES[0].as_slice();
     let starts = MALFORMED.iter().map(|start| [b"message ", start.as_bytes(), code].concat());
-    let words: [&[u8]; 5] =
-        [b"message", b"message ", b"Message A 1 0 0 ", b" message A 1 0 0 ", b"message\tA 1 0 0 "];
+    let words: [&[u8]; 5] = [
+        b"message", b"message ", b"Message A 1 0 0 0 ", b" message A 1 0 0 0 ",
+        b"message\tA 1 0 0 0 ",
+    ];
     // These are of the form: less is listed than it seems, or the text begins with a
     // space, or has a word too many.
     let nearly: [&[u8]; 4] = [
-        b"message A 1 0 0 1 0 0 0 ",
-        b"message A 1 0 0  ",
-        b"message A 1 0 0 ",
-        b"message C 18446744073709551615 18446744073709551615 0 ",
+        b"message A 1 0 0 0 1 0 0 0 ",
+        b"message A 1 0 0 0  ",
+        b"message A 1 0 0 0 ",
+        b"message C 18446744073709551615 18446744073709551615 18446744073709551615 0 ",
     ];
     let ended = |line: &&[u8]| line.to_vec();
     starts.chain(words.iter().map(ended)).chain(nearly.iter().map(ended)).collect()

@@ -1,5 +1,6 @@
 //! Random message lines as one long history for the program `account`: it fills an
-//! account, keeps it full, empties it and begins again, with every answer often.
+//! account, keeps it full, empties it and begins again, with every answer often, and asks
+//! for the total at any time.
 
 use std::io::{self, Write};
 
@@ -17,16 +18,17 @@ const POOL: usize = PLACES + 64;
 pub const START: u64 = 100_000;
 
 /// Short lines of another form than a message's.
-const SHORT: [&str; 16] = [
+const SHORT: [&str; 28] = [
     "", " ", "A", "C", "A ", "A 5", "C 5", "A  ", "A 5\t", "\r", "5", "5 A", "AC 5 ", "a", "\t",
-    "A\t5 ",
+    "A\t5 ", "T ", "T ", "TT", "T 5", "T 5 ", "t", " T", "T\r", "T\0", "TA", "AT", "\u{d4}",
 ];
 
 /// Kinds and numbers, each with what separates it from the code, of no message.
-const STARTS: [&str; 22] = [
+const STARTS: [&str; 24] = [
     "a 5 ", "c 5 ", "B 5 ", " A 5 ", "A  5 ", "A 05 ", "A 00 ", "A +5 ", "A -5 ", "A 5. ",
-    "A 5\r ", "A\t5 ", "A 5\t", "A 0x5 ", "A ", "5 ", "", "A5 ", "C 18446744073709551616 ",
-    "A 18446744073709551620 ", "A 99999999999999999999 ", "C 100000000000000000000 ",
+    "A 5\r ", "A\t5 ", "A 5\t", "A 0x5 ", "A ", "5 ", "", "A5 ", "T 5 ", "T ",
+    "C 18446744073709551616 ", "A 18446744073709551620 ", "A 99999999999999999999 ",
+    "C 100000000000000000000 ",
 ];
 
 /// What most messages of a stretch are for.
@@ -75,6 +77,11 @@ pub fn line_of(kind: char, number: u64, text: &[u8]) -> Vec<u8> {
     [format!("{kind} {number} ").as_bytes(), text].concat()
 }
 
+/// The line that asks for the total.
+pub fn asking() -> Vec<u8> {
+    b"T".to_vec()
+}
+
 /// The last lines: the greatest number, after which all is old.
 fn ending(codes: &[Code]) -> Vec<Vec<u8>> {
     let (one, two): (&[u8], &[u8]) = (&codes[0], &codes[1]);
@@ -86,6 +93,7 @@ fn ending(codes: &[Code]) -> Vec<Vec<u8>> {
         line_of('C', MESSAGE_MAX - 1, one),
         line_of('A', MESSAGE_MAX, &one[1..]),
         line_of('A', MESSAGE_MAX, two),
+        asking(),
         line_of('A', MESSAGE_MAX, two),
         line_of('C', MESSAGE_MAX, two),
         line_of('C', MESSAGE_MAX + 1, two),
@@ -94,6 +102,7 @@ fn ending(codes: &[Code]) -> Vec<Vec<u8>> {
         line_of('C', 1, two),
         line_of('C', MESSAGE_MAX, b""),
         b"C 18446744073709551616 ".to_vec(),
+        asking(),
         line_of('C', MESSAGE_MAX, one),
     ]
 }
@@ -113,6 +122,10 @@ impl History {
         self.turn(random);
         if random.one_in(4_000) {
             return self.long(random);
+        }
+        // An account is never empty for long.
+        if random.one_in(if self.count() == 0 { 4 } else { 12 }) {
+            return asking();
         }
         let number = self.next_number(random, left);
         match random.below(100) {
@@ -256,7 +269,11 @@ impl History {
     /// A line about as long as a line may be, or far longer.
     fn long(&mut self, random: &mut Random) -> Vec<u8> {
         let lengths = [LINE_MAX - 1, LINE_MAX, LINE_MAX, LINE_MAX + 1, LINE_MAX + 1, 60_000];
-        let start = if random.one_in(3) { random.pick(&STARTS).into() } else { "A 1 ".to_string() };
+        let start: &str = match random.below(6) {
+            0..=1 => random.pick(&STARTS),
+            2 => "T",
+            _ => "A 1 ",
+        };
         let mut line = [start.as_bytes(), &random.pick(&self.codes)].concat();
         line.resize(random.pick(&lengths), random.pick(b"0Y "));
         line

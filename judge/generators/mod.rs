@@ -9,6 +9,7 @@ pub mod borderedges;
 pub mod bordermessages;
 pub mod borders;
 pub mod bordertails;
+pub mod bordertotals;
 pub mod borderunits;
 mod broken;
 pub mod changes;

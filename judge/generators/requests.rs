@@ -2,7 +2,7 @@
 
 use std::io::{self, Write};
 
-use super::accounts::message_request;
+use super::accounts::{message_request, total_request};
 use super::asked::{inside_request, meets_request, odd_request};
 use super::broken::{broken, noise, BAD_NUMBERS};
 use super::crossing::{self, crossed_unit, missed_unit};
@@ -25,7 +25,7 @@ type Numbered = fn(&mut Random) -> (char, i64);
 type Share = (u64, Maker);
 
 /// The kinds of requests with their shares.
-const KINDS: [(&str, u64, Maker); 13] = [
+const KINDS: [(&str, u64, Maker); 14] = [
     ("write", 25, write_request),
     ("read", 30, read_request),
     ("plain", 15, plain_request),
@@ -39,6 +39,7 @@ const KINDS: [(&str, u64, Maker); 13] = [
     ("bad", 15, bad_request),
     ("tail-units", 5, tailed_unit),
     ("message", 5, message_request),
+    ("total", 1, total_request),
 ];
 
 /// Small bad requests, each wrong in its own way.
@@ -100,10 +101,10 @@ pub fn kinds_of(list: &str) -> Option<Vec<Share>> {
     list.split(',').map(|name| known(name).map(|kind| (kind.1, kind.2))).collect()
 }
 
-/// The kinds of a mix: all but `message`, the last, so that what a seed gives stays the
-/// same.
+/// The kinds of a mix: all but those of an account, the last two, so that what a seed
+/// gives stays the same.
 pub fn mixed_kinds() -> Vec<Share> {
-    KINDS[..KINDS.len() - 1].iter().map(|kind| (kind.1, kind.2)).collect()
+    KINDS[..KINDS.len() - 2].iter().map(|kind| (kind.1, kind.2)).collect()
 }
 
 /// Prints `count` requests of the kinds.

@@ -1,5 +1,6 @@
-//! The account of entitlements, request 3 of document 02: 256 places and a last
-//! number, and what the messages activate and cancel do to it and are answered.
+//! The account of entitlements, requests 3 and 5 of document 02: 256 places, a last
+//! number and a total, what the messages activate and cancel do to it and are answered,
+//! and the asking for its total.
 
 use super::code::{self, letter_value, put_letters, refused, Refusal, LENGTH};
 
@@ -52,6 +53,7 @@ impl Place {
 pub struct Account {
     pub places: [Place; PLACES],
     pub last: u64,
+    pub total: u64,
 }
 
 #[derive(Clone, Copy, Debug, PartialEq, Eq)]
@@ -78,12 +80,22 @@ pub enum Answer {
 
 impl Account {
     pub fn empty() -> Account {
-        Account { places: [Place::default(); PLACES], last: 0 }
+        Account { places: [Place::default(); PLACES], last: 0, total: 0 }
     }
 
     /// The places that are active.
     pub fn active(&self) -> impl Iterator<Item = &Place> {
         self.places.iter().filter(|place| place.active())
+    }
+
+    /// How many places are active.
+    pub fn count(&self) -> u64 {
+        self.active().count() as u64
+    }
+
+    /// The kept total, of any account: nothing is counted and nothing refused.
+    pub fn total(&self) -> u64 {
+        self.total
     }
 
     /// Whether the account may be handed in: what is refused 40 is not good.
@@ -95,6 +107,7 @@ impl Account {
         codes.windows(2).all(|two| two[0] != two[1])
             && self.active().all(readable)
             && self.last <= MESSAGE_MAX
+            && self.total == self.count()
     }
 
     /// Does what a message says and answers it. A refusal 40, 41 or 42 and `Old`
@@ -117,6 +130,7 @@ impl Account {
             (Kind::Activate, None) => self.activate(code),
             (Kind::Cancel, Some(place)) => {
                 self.places[place] = Place::default();
+                self.total -= 1;
                 Ok(Answer::Cancelled)
             }
             (Kind::Cancel, None) => Ok(Answer::NotActive),
@@ -127,6 +141,7 @@ impl Account {
     fn activate(&mut self, (high, low): Halves) -> Result<Answer, Refusal> {
         let free = self.places.iter_mut().find(|place| !place.active()).ok_or(refused(43))?;
         *free = Place { activity: 1, high, low };
+        self.total += 1;
         Ok(Answer::Activated)
     }
 }

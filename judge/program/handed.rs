@@ -1,5 +1,5 @@
-//! The `message` requests of the trials: an account handed in as words, a message
-//! to it, and the account handed back.
+//! The `message` and `total` requests of the trials: an account handed in as words, a
+//! message to it and the account handed back, or the asking for its total.
 
 use std::io::{self, Write};
 
@@ -27,13 +27,23 @@ pub fn handed_of(rest: &[u8]) -> Option<Handed<'_>> {
     Some(Handed { account, message: Message { kind: kind_of(kind)?, number, text } })
 }
 
-/// An account: last number, count, and of so many places, in rising order, the
+/// The account of a `total` request after its first word and a space; it ends the
+/// line.
+pub fn asked_of(rest: &[u8]) -> Option<Account> {
+    // A space ends each word of an account, and the line's end stands for the last one.
+    let rest = [rest, b" "].concat();
+    let (account, after) = account_of(&rest)?;
+    Some(account).filter(|_| after.is_empty())
+}
+
+/// An account: last number, total, count, and of so many places, in rising order, the
 /// place, its activity and its halves; then what follows. Other places are 0.
 fn account_of(rest: &[u8]) -> Option<(Account, &[u8])> {
     let mut account = Account::empty();
     let (last, rest) = first_number(rest)?;
+    let (total, rest) = first_number(rest)?;
     let (count, mut rest) = first_number(rest)?;
-    account.last = last;
+    (account.last, account.total) = (last, total);
     let mut least = 0;
     // More than 256 places cannot rise, so no count needs a bound of its own.
     for _ in 0..count {
@@ -52,7 +62,7 @@ fn account_of(rest: &[u8]) -> Option<(Account, &[u8])> {
 /// An account in words: the places that `listed` says.
 pub fn account_words(account: &Account, listed: impl Fn(usize) -> bool) -> String {
     let at: Vec<usize> = (0..PLACES).filter(|&at| listed(at)).collect();
-    let mut words = format!("{} {}", account.last, at.len());
+    let mut words = format!("{} {} {}", account.last, account.total, at.len());
     for at in at {
         let Place { activity, high, low } = account.places[at];
         words.push_str(&format!(" {at} {activity} {high} {low}"));

@@ -1,10 +1,14 @@
-//! Message lines, and the program `account`, which sends them to one account.
+//! Message lines, the line that asks for the total, and the program `account`, which
+//! has one account answer them.
 
 use std::io::{self, BufRead, Write};
 
 use super::account::{Account, Answer, Kind, Message};
 use super::code::{refused, Refusal};
 use super::lines::{first_word, long_number, Line, Lines};
+
+/// The whole line that asks for the total.
+const ASKING: &[u8] = b"T";
 
 /// The kind of a message from its word.
 pub fn kind_of(word: &[u8]) -> Option<Kind> {
@@ -30,23 +34,30 @@ pub fn account(input: impl BufRead, output: &mut impl Write) -> io::Result<()> {
     let mut line_number = 0u64;
     while let Some(line) = lines.next()? {
         line_number += 1;
-        let said = match answer(&mut account, &line) {
-            Ok(Answer::Activated) => "activated".to_string(),
-            Ok(Answer::Already) => "already".to_string(),
-            Ok(Answer::Cancelled) => "cancelled".to_string(),
-            Ok(Answer::NotActive) => "not active".to_string(),
-            Ok(Answer::Old) => "old".to_string(),
-            Err(refusal) => format!("refused {} {}", refusal.number, refusal.place),
+        let said = match line {
+            Line::Whole(ASKING) => format!("total {}", account.total()),
+            _ => in_words(answer(&mut account, &line)),
         };
         writeln!(output, "{line_number} {said}")?;
     }
     output.flush()
 }
 
-/// What the account answers to a line; 10 and 9 come before all else.
+/// What the account answers to a message line; 10 and 9 come before all else.
 fn answer(account: &mut Account, line: &Line) -> Result<Answer, Refusal> {
     let Line::Whole(bytes) = line else {
         return Err(refused(10));
     };
     account.send(&message_of(bytes).ok_or(refused(9))?)
+}
+
+fn in_words(answer: Result<Answer, Refusal>) -> String {
+    match answer {
+        Ok(Answer::Activated) => "activated".to_string(),
+        Ok(Answer::Already) => "already".to_string(),
+        Ok(Answer::Cancelled) => "cancelled".to_string(),
+        Ok(Answer::NotActive) => "not active".to_string(),
+        Ok(Answer::Old) => "old".to_string(),
+        Err(refusal) => format!("refused {} {}", refusal.number, refusal.place),
+    }
 }

@@ -1,10 +1,11 @@
 //! The trials: requests to write, to read, to code by either road, the questions,
-//! and messages to an account, one a line, each answered by a line.
+//! messages to an account and its total, one a line, each answered by a line.
 
 use std::io::{self, BufRead, Write};
 
+use super::account::Account;
 use super::code::{self, Fields, Rectangle, Refusal};
-use super::handed::{answer_handed, handed_of, Handed};
+use super::handed::{answer_handed, asked_of, handed_of, Handed};
 use super::lines::{number, unit_of, words, Line, Lines};
 use super::questions::Question;
 use super::unit::{self, Road, Unit};
@@ -21,6 +22,7 @@ pub enum Request<'a> {
     Code { road: Road, room: usize, unit: Unit },
     Ask(Question),
     Message(Box<Handed<'a>>),
+    Total(Box<Account>),
 }
 
 /// The request of a line, or none for a line of no such form.
@@ -31,6 +33,9 @@ pub fn request_of(line: &[u8]) -> Option<Request<'_>> {
     }
     if let Some(rest) = line.strip_prefix(b"message ") {
         return handed_of(rest).map(Box::new).map(Request::Message);
+    }
+    if let Some(rest) = line.strip_prefix(b"total ") {
+        return asked_of(rest).map(Box::new).map(Request::Total);
     }
     let mut words = words(line);
     let road = match words.next()? {
@@ -95,6 +100,7 @@ fn answer(request: &Request, output: &mut impl Write) -> io::Result<()> {
         }
         Request::Ask(question) => write!(output, "{}", u8::from(question.yes())),
         Request::Message(handed) => answer_handed(handed, output),
+        Request::Total(account) => write!(output, "{}", account.total()),
     }
 }
 

@@ -30,17 +30,19 @@ fn sent(account: &Account, kind: Kind, number: u64, text: &[u8]) -> (String, Acc
     (said, after)
 }
 
-fn activate(account: &Account, number: u64, text: &[u8]) -> (String, Account) {
+pub fn activate(account: &Account, number: u64, text: &[u8]) -> (String, Account) {
     sent(account, Kind::Activate, number, text)
 }
 
-fn cancel(account: &Account, number: u64, text: &[u8]) -> (String, Account) {
+pub fn cancel(account: &Account, number: u64, text: &[u8]) -> (String, Account) {
     sent(account, Kind::Cancel, number, text)
 }
 
-/// An account with these codes in these places.
-fn with(last: u64, places: &[(usize, u64, &[u8])]) -> Account {
-    let mut account = Account { last, ..Account::empty() };
+/// An account with these codes in these places, and as a total how many of them are
+/// active.
+pub fn with(last: u64, places: &[(usize, u64, &[u8])]) -> Account {
+    let total = places.iter().filter(|place| place.1 != 0).count() as u64;
+    let mut account = Account { last, total, ..Account::empty() };
     for &(at, activity, text) in places {
         let (high, low) = halves_of(text).unwrap_or((u64::MAX, u64::MAX));
         account.places[at] = Place { activity, high, low };
@@ -48,7 +50,7 @@ fn with(last: u64, places: &[(usize, u64, &[u8])]) -> Account {
     account
 }
 
-fn is(got: (String, Account), said: &str, after: &Account) -> bool {
+pub fn is(got: (String, Account), said: &str, after: &Account) -> bool {
     got == (said.to_string(), *after)
 }
 
@@ -77,9 +79,9 @@ pub fn places_good() -> bool {
     let mut account = with(5, &[(0, 1, ONE), (2, 1, CODES[2]), (4, 0, TWO), (255, 0, ONE)]);
     account.places[1] = rubbish;
     account.places[3] = rubbish;
-    let mut taken = Account { last: 6, ..account };
+    let mut taken = Account { last: 6, total: 3, ..account };
     taken.places[1] = with(0, &[(1, 1, TWO)]).places[1];
-    let mut cleared = Account { last: 6, ..account };
+    let mut cleared = Account { last: 6, total: 1, ..account };
     cleared.places[0] = Place::default();
     let (_, once) = activate(&taken, 7, &numbered(9));
     let below = cancel(&cancel(&once, 8, CODES[2]).1, 9, ONE).1;
@@ -91,12 +93,14 @@ pub fn places_good() -> bool {
         && activate(&below, 10, &numbered(8)).1.places[0].active()
 }
 
-/// What is refused 40 and what is not, with good messages and with bad ones.
+/// What is refused 40 and what is not, with good messages and with bad ones, where the
+/// total is right.
 pub fn handed_in_good() -> bool {
     let good = with(5, &[(3, 1, ONE), (9, u64::MAX, TWO)]);
     let changed = |change: fn(&mut Account)| {
         let mut account = good;
         change(&mut account);
+        account.total = account.count();
         account
     };
     let bad: [fn(&mut Account); 10] = [
@@ -156,11 +160,11 @@ pub fn full_good() -> bool {
     let used = Account { last: 6, ..full };
     (0..PLACES).all(|at| {
         let code = numbered(at);
-        let mut free = full;
+        let mut free = Account { total: 255, ..full };
         free.places[at].activity = 0;
         let mut taken = used;
         taken.places[at] = with(0, &[(0, 1, TWO)]).places[0];
-        let mut cleared = used;
+        let mut cleared = Account { total: 255, ..used };
         cleared.places[at] = Place::default();
         is(activate(&full, 6, &code), "Already", &used)
             && is(cancel(&full, 6, &code), "Cancelled", &cleared)
@@ -212,7 +216,8 @@ impl Told {
         }
     }
 
-    /// Whether the account's active codes are those that are told, none of them twice.
+    /// Whether the account's active codes are those that are told, none of them twice,
+    /// and their number is the kept total.
     fn fits(&self, account: &Account) -> bool {
         let letters: Option<Vec<[u8; LENGTH]>> = account.active().map(Place::letters).collect();
         let letters = letters.unwrap_or_default();
@@ -220,13 +225,14 @@ impl Told {
         active == self.active()
             && letters.len() == active.len()
             && letters.len() + self.cancelled == self.activated
+            && account.total() == letters.len() as u64
             && account.last == self.last
     }
 }
 
 /// Over a long history: the active codes are exactly those whose latest processed
 /// message, with "full" ones passed over, was an activation, their number is the
-/// "activated" answers less the "cancelled" ones, and 40 never comes.
+/// "activated" answers less the "cancelled" ones and the kept total, and 40 never comes.
 pub fn history_good() -> bool {
     let mut lines = Vec::new();
     // Writing into a Vec does not fail.
@@ -257,9 +263,9 @@ fn met(counts: &BTreeMap<String, usize>, names: &str, least: usize) -> bool {
 }
 
 const REQUESTED: &str = "40 41 42 43 ? activated already cancelled not-active old";
-const REPLIED: &str = "10 41 42 43 9 activated already cancelled not old";
+const REPLIED: &str = "10 41 42 43 9 activated already cancelled not old total";
 
-/// The fixed and the random requests meet every answer, the random ones often.
+/// The fixed and the random messages meet every answer, the random ones often.
 pub fn requests_good() -> bool {
     let Some(share) = kinds_of("message") else {
         return false;
@@ -267,7 +273,10 @@ pub fn requests_good() -> bool {
     let (mut fixed, mut random) = (Vec::new(), Vec::new());
     let (mut answers, mut often) = (Vec::new(), Vec::new());
     // Writing into a Vec does not fail.
-    let _ = border_messages(&mut fixed).and_then(|()| trials(fixed.as_slice(), &mut answers));
+    let _ = border_messages(&mut fixed);
+    let fixed = fixed.split(|&byte| byte == b'\n').filter(|line| !line.starts_with(b"total"));
+    let fixed = fixed.collect::<Vec<&[u8]>>().join(&b'\n');
+    let _ = trials(fixed.as_slice(), &mut answers);
     let _ = requests(19, 4_000, &share, &mut random);
     let _ = trials(random.as_slice(), &mut often);
     let answered = counts(&often, 0);

@@ -5,3 +5,4 @@ pub mod cases;
 mod crossings;
 pub mod selftest;
 mod tails;
+mod totals;

@@ -5,7 +5,7 @@ use std::collections::BTreeSet;
 use std::io::{self, Write};
 
 use super::cases::cases;
-use super::{accounts, crossings, tails};
+use super::{accounts, crossings, tails, totals};
 use crate::generators::borderedges::border_edges;
 use crate::generators::borders::borders;
 use crate::generators::borderunits::{border_roads, border_units};
@@ -45,7 +45,7 @@ pub fn agree(seed: u64, count: u64, output: &mut impl Write) -> io::Result<bool>
 }
 
 /// The tests by name.
-const TESTS: [(&str, fn() -> bool); 34] = [
+const TESTS: [(&str, fn() -> bool); 42] = [
     ("letters", letters_good),
     ("grid", grid_good),
     ("meeting", meeting_good),
@@ -80,6 +80,14 @@ const TESTS: [(&str, fn() -> bool); 34] = [
     ("active codes over a history", accounts::history_good),
     ("fixed and random messages", accounts::requests_good),
     ("fixed and random message lines", accounts::lines_good),
+    ("one total for each count", totals::counts_good),
+    ("what counts in a total", totals::places_good),
+    ("totals that are asked for", totals::asked_good),
+    ("totals that are handed back", totals::handed_back_good),
+    ("lines that ask for the total", totals::lines_good),
+    ("totals over a history", totals::history_good),
+    ("random accounts with wrong totals", totals::requests_good),
+    ("fixed accounts with wrong totals", totals::borders_good),
 ];
 
 /// Runs every test; whether all are good.
