@@ -15,11 +15,11 @@ use Rattle.entitlements.specs.Outcomes.{Spoken, in-words, by-number, message-sp
 use Rattle.history.specs.History.{Message, after, sent, one, times, Kept}
 use Rattle.history.specs.HistoryLaws.{after-append, sent-append, times-append, kept}
 use Rattle.lines.specs.Lines.{Reply, refused, saying, longest, linesOf}
-use Rattle.lines.specs.Messages.{Message as Form, message as stating, notOfThisForm, messageOf}
+use Rattle.lines.specs.Messages.{Message as Form, message as stating, asksTotal, notOfThisForm, messageOf}
 use Rattle.lines.specs.Answers.{saidFrom, stateFrom}
 use Rattle.lines.specs.Automaton.{first, final, together, after as read}
 use Rattle.entry.specs.Stated.{kindOf}
-use Rattle.book.specs.Said.{replyOf, answered, formPosted, posting}
+use Rattle.book.specs.Said.{replyOf, totalSaid, answered, formPosted, posting}
 use Rattle.book.specs.Whole.{whole-account}
 
 -- ---- the messages of an input
@@ -27,9 +27,10 @@ use Rattle.book.specs.Whole.{whole-account}
 -- the message of a form, if it has one
 abbrev pub messageIn : Form → List Message
 messageIn (stating letter number text) = record { kind = kindOf letter; text = text; number = number } ∷ []
+messageIn asksTotal = []
 messageIn notOfThisForm = []
 
--- the message of a line, if it states one: 9 and 10 are for lines that state none
+-- the message of a line, if it states one: the question for the total is none, and 9 and 10 are for lines that are neither
 abbrev pub messageOn : List ℕ → List Message
 messageOn line = cond (ltb longest (length line)) [] (messageIn (messageOf line))
 
@@ -49,6 +50,7 @@ line-after account line = pick (ltb longest (length line)) (messageOf line)
         → cond b (answered (refused 10 0) account) (formPosted message account f) .state ≡ after account (cond b [] (messageIn f))
     pick true f = refl
     pick false (stating letter number text) = refl
+    pick false asksTotal = refl
     pick false notOfThisForm = refl
 
 -- and lines the account after theirs
@@ -78,13 +80,16 @@ abbrev pub repliesIn : List ℕ → List Reply → ℕ
 repliesIn words [] = 0
 repliesIn words (said ∷ later) = inWords words said + repliesIn words later
 
--- words that do not start as a refusal does
-module _ (w : ℕ) (rest : List ℕ) (other : eqb (code "r") w ≡ false) where
+-- words that start neither as a refusal does nor as a total
+module _ (w : ℕ) (rest : List ℕ) (other : eqb (code "r") w ≡ false) (another : eqb (code "t") w ≡ false) where
   abbrev words : List ℕ
   words = w ∷ rest
 
   refusal-other : (number place : ℕ) → inWords words (refused number place) ≡ 0
   refusal-other number place = rw other
+
+  total-other : (total : ℕ) → inWords words (totalSaid total) ≡ 0
+  total-other total = rw another
 
   -- a reply is in them where the answer is
   spoken-words : {answer : Answering} → Spoken answer → inWords words (replyOf answer) ≡ one words answer
@@ -102,6 +107,7 @@ module _ (w : ℕ) (rest : List ℕ) (other : eqb (code "r") w ≡ false) where
           ≡ times words (sent account (cond b [] (messageIn f)))
       pick true f = refusal-other 10 0
       pick false (stating letter number text) = omega (arith, spoken-words (message-spoken (kindOf letter) account text number))
+      pick false asksTotal = total-other (account .total)
       pick false notOfThisForm = refusal-other 9 0
 
   -- as many replies are in these words as there are answers
@@ -117,13 +123,13 @@ module _ (w : ℕ) (rest : List ℕ) (other : eqb (code "r") w ≡ false) where
       ∙ sym parts
       ∙ ap (times words) (sym (sent-append (messageOn line) (messagesOf lines) account))
 
--- So the number of active codes at the end of every input is that of the replies `activated` less that of the replies `cancelled`
+-- So the total at the end of every input is the number of the replies `activated` less that of the replies `cancelled`
 pub whole-number : (room : List ℕ) (reads : List (List ℕ)) → longest < length room → 1 + length (together reads) < 2 ^ 64
-    → countActive (final (posting processing) (read (posting processing) (first room empty) (together reads)) .active)
+    → final (posting processing) (read (posting processing) (first room empty) (together reads)) .total
     ≡ repliesIn (bytes "activated") (saidFrom (posting message) empty (linesOf (together reads)))
     - repliesIn (bytes "cancelled") (saidFrom (posting message) empty (linesOf (together reads)))
 whole-number room reads h few =
     whole-kept room reads h few .number
     ∙ ap₂ _-_
-    (sym (lines-words (code "a") (bytes "ctivated") refl (linesOf (together reads)) empty))
-    (sym (lines-words (code "c") (bytes "ancelled") refl (linesOf (together reads)) empty))
+    (sym (lines-words (code "a") (bytes "ctivated") refl refl (linesOf (together reads)) empty))
+    (sym (lines-words (code "c") (bytes "ancelled") refl refl (linesOf (together reads)) empty))

@@ -3,7 +3,7 @@
 use Prim.Native.Nat.{ℕ}
 use mathlib.Core.Path.{_≡_}
 use mathlib.Core.Bool.{cond}
-use mathlib.Core.List.{List}
+use mathlib.Core.List.{List, _++_}
 use lib.ListN.{length}
 use lib.Dec.{ltb, eqb}
 use Rattle.entitlements.specs.declared.Account.{Account}
@@ -11,8 +11,9 @@ use Rattle.entitlements.specs.declared.Kind.{Kind}
 use Rattle.entitlements.specs.Entitlements.{Answering, Done, processing}
 use Rattle.change.specs.declared.Step.{Step}
 use Rattle.change.specs.Change.{stepped}
-use Rattle.lines.specs.Lines.{Reply, coded, refused, replyLine, longest}
-use Rattle.lines.specs.Messages.{Message, message, notOfThisForm, messageOf}
+use Rattle.facts.specs.Texts.{bytes}
+use Rattle.lines.specs.Lines.{Reply, decimal, coded, refused, replyLine, longest}
+use Rattle.lines.specs.Messages.{Message, message, asksTotal, notOfThisForm, messageOf}
 use Rattle.lines.specs.Answers.{Served, Serving}
 use Rattle.lines.specs.Automaton.{Coming}
 use Rattle.entry.specs.Stated.{kindOf}
@@ -21,6 +22,10 @@ use Rattle.book.specs.declared.Line.{Line}
 -- "`activated`, `already`, `cancelled`, `not active`, `old`, or `refused`, number and place"
 abbrev pub replyOf : Answering → Reply
 replyOf answer = cond (eqb (answer .number) 0) (coded (answer .words)) (refused (answer .number) 0)
+
+-- "`total` and the number after it": the kept total, whatever the account
+abbrev pub totalSaid : ℕ → Reply
+totalSaid total = coded (bytes "total " ++ decimal total)
 
 -- what a message does to an account, by its kind, its text and its number
 abbrev pub Doing : Type 0
@@ -34,9 +39,10 @@ answered reply account = record { reply = reply; state = account }
 abbrev pub posted : Done → Served Account
 posted done = answered (replyOf (done .answer)) (done .account)
 
--- the answer to a form: 9 for a line that is none, which leaves the account as it was
+-- the answer to a form: the total where it is asked for, and 9 for a line that is none, both of which leave the account as it was
 abbrev pub formPosted : Doing → Account → Message → Served Account
 formPosted doing account (message letter number text) = posted (doing (kindOf letter) account text number)
+formPosted doing account asksTotal = answered (totalSaid (account .total)) account
 formPosted doing account notOfThisForm = answered (refused 9 0) account
 
 -- the answer to a line: 10 for one of too many bytes, which leaves the account as it was too

@@ -9,10 +9,10 @@ use Rattle.entitlements.specs.declared.Account.{Account}
 use Rattle.entitlements.specs.declared.Kind.{Kind}
 use Rattle.lines.specs.Lines.{refused, longest}
 use Rattle.lines.specs.Messages.{messageOf}
-use Rattle.entry.specs.declared.Stated.the-variants.{Message, Bad}
+use Rattle.entry.specs.declared.Stated.the-variants.{Message, Total, Bad}
 use Rattle.entry.specs.Stated.{statedOf}
-use Rattle.entry.specs.StatedLaws.{stated-bad, stated-message}
-use Rattle.book.specs.Said.{Doing, answered, posted, formPosted, posting}
+use Rattle.entry.specs.StatedLaws.{stated-bad, stated-total, stated-message}
+use Rattle.book.specs.Said.{Doing, totalSaid, answered, posted, formPosted, posting}
 
 module _ (doing : Doing) (account : Account) (line : List ℕ) where
   pub posting-long : longest < length line → posting doing account line ≡ answered (refused 10 0) account
@@ -26,6 +26,9 @@ module _ (doing : Doing) (account : Account) (line : List ℕ) where
 
     pub posting-bad : statedOf line ≡ Bad → posting doing account line ≡ answered (refused 9 0) account
     posting-bad e = posting-form ∙ ap (formPosted doing account) (stated-bad line e)
+
+    pub posting-total : statedOf line ≡ Total → posting doing account line ≡ answered (totalSaid (account .total)) account
+    posting-total e = posting-form ∙ ap (formPosted doing account) (stated-total line e)
 
     pub posting-message : {kind : Kind} {number at : ℕ} → statedOf line ≡ Message kind number at
         → posting doing account line ≡ posted (doing kind account (drop at line) number)

@@ -6,20 +6,21 @@ use mathlib.Core.Path.{_≡_, refl, ap, sym, _∙_}
 use mathlib.Core.Bool.{Bool, true, false, cond}
 use mathlib.Core.List.{List}
 use lib.Dec.{ltb}
-use lib.ListN.{length}
+use lib.ListN.{length, length-append}
+use Rattle.facts.specs.Texts.{bytes}
 use Rattle.entitlements.specs.declared.Account.{Account}
 use Rattle.entitlements.specs.Entitlements.{empty, Answering, processing, message}
 use Rattle.entitlements.specs.Sound.{Sound, empty-sound, message-processing}
 use Rattle.entitlements.specs.Outcomes.{Spoken, in-words, by-number, processing-sound, processing-spoken}
-use Rattle.lines.specs.Lines.{refused, longest, linesOf}
-use Rattle.lines.specs.Messages.{Message, message as stating, notOfThisForm, messageOf}
+use Rattle.lines.specs.Lines.{refused, decimal, longest, linesOf}
+use Rattle.lines.specs.Messages.{Message, message as stating, asksTotal, notOfThisForm, messageOf}
 use Rattle.lines.specs.Answers.{stateFrom, outputFrom}
 use Rattle.lines.specs.AnswersLaws.{ByFirst, long-first, output-agree, state-agree}
 use Rattle.lines.specs.Automaton.{first, after, final, together, listed}
 use Rattle.lines.specs.AutomatonLaws.{listed-output, final-state}
-use Rattle.lines.specs.ReplyLaws.{Short, refusal-short}
+use Rattle.lines.specs.ReplyLaws.{Short, spelling-short, refusal-short}
 use Rattle.entry.specs.Stated.{kindOf}
-use Rattle.book.specs.Said.{Doing, replyOf, answered, posted, formPosted, posting}
+use Rattle.book.specs.Said.{Doing, replyOf, totalSaid, answered, posted, formPosted, posting}
 use Rattle.book.specs.SaidLaws.{posting-long}
 
 -- ---- from the empty account on, the whole account need not be tested
@@ -32,6 +33,7 @@ line-sound account line sound = pick (ltb longest (length line)) (messageOf line
     pick : (b : Bool) (f : Message) → Sound (cond b (answered (refused 10 0) account) (formPosted processing account f) .state)
     pick true f = sound
     pick false (stating letter number text) = processing-sound (kindOf letter) account text number sound
+    pick false asksTotal = sound
     pick false notOfThisForm = sound
 
 -- and is answered in it as `message` answers
@@ -42,6 +44,7 @@ line-message account line sound =
   where
     of : (f : Message) → formPosted processing account f ≡ formPosted message account f
     of (stating letter number text) = ap posted (sym (message-processing (kindOf letter) account text number sound))
+    of asksTotal = refl
     of notOfThisForm = refl
 
 -- ---- the whole output
@@ -66,10 +69,13 @@ module _ (room : List ℕ) (reads : List (List ℕ)) (h : longest < length room)
 
 -- ---- how long replies are
 
--- an answer has ten letters at most, or is a refusal
+-- an answer has ten letters at most, or is a refusal, and a total has 20 digits at most
 spoken-short : {answer : Answering} → Spoken answer → Short (replyOf answer)
 spoken-short (in-words words uses h) = omega (arith, h)
 spoken-short (by-number number uses e) = rw e (refusal-short number 0)
+
+total-short : (total : ℕ) → Short (totalSaid total)
+total-short total = omega (arith, length-append (bytes "total ") (decimal total), spelling-short 20 total)
 
 pub said-short : (account : Account) (line : List ℕ) → Short (posting processing account line .reply)
 unfolding posting
@@ -78,4 +84,5 @@ said-short account line = pick (ltb longest (length line)) (messageOf line)
     pick : (b : Bool) (f : Message) → Short (cond b (answered (refused 10 0) account) (formPosted processing account f) .reply)
     pick true f = refusal-short 10 0
     pick false (stating letter number text) = spoken-short (processing-spoken (kindOf letter) account text number)
+    pick false asksTotal = total-short (account .total)
     pick false notOfThisForm = refusal-short 9 0

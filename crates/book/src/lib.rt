@@ -1,5 +1,5 @@
-// The replies to message lines: from the bytes of each read to the bytes of the replies, with an
-// account that goes on from line to line.
+// The replies to message lines and to those that ask for the total: from the bytes of each read to the
+// bytes of the replies, with an account that goes on from line to line.
 //
 // A line comes in byte by byte, into a room that goes from read to read. The account stays where it is:
 // a message changes one place of it. It is not tested as a whole, 40: from the empty one on that is
@@ -28,8 +28,8 @@ pub struct Listed {
 }
 
 // Puts the replies to the lines that end in the bytes of a read into the output, as much as fits: a
-// line's number, and what its message is answered or its refusal. The rest of the bytes stays in the
-// room.
+// line's number, and what its message is answered, the total, or its refusal. The rest of the bytes stays
+// in the room.
 pub fn reply_all(
     line: Line,
     account: Account,
@@ -44,6 +44,7 @@ pub fn reply_all(
     let mut low = account.low;
     let mut active = account.active;
     let mut last = account.last;
+    let mut total = account.total;
     let mut number = line.number;
     let mut len = line.len;
     let mut put = 0;
@@ -52,10 +53,22 @@ pub fn reply_all(
         let byte = bytes[i];
         i += 1;
         if byte == b'\n' {
-            let posted = post::post_held(number, &high, &low, &active, last, room, len, out, put);
+            let posted = post::post_held(
+                number,
+                &high,
+                &low,
+                &active,
+                last,
+                total,
+                room,
+                len,
+                out,
+                put,
+            );
             let step = posted.step;
             change::put_step(&mut high, &mut low, &mut active, step);
             last = step.last;
+            total = step.total;
             put = posted.put;
             number = std::num::wrapping_add_u64(number, 1);
             len = 0;
@@ -70,6 +83,7 @@ pub fn reply_all(
             low,
             active,
             last,
+            total,
         },
         put,
     }
@@ -89,6 +103,7 @@ pub fn reply_last(line: Line, account: Account, room: &[u8], out: &mut [u8]) -> 
         &account.low,
         &account.active,
         account.last,
+        account.total,
         room,
         line.len,
         out,

@@ -6,14 +6,14 @@ use mathlib.Core.Bool.{true, false}
 use mathlib.Core.List.{List, [], _∷_}
 use lib.ListN.{length, drop, length-drop}
 use Rattle.lines.specs.Starts.{startsWith}
-use Rattle.lines.specs.Messages.{Message as Form, message, notOfThisForm, messageOf}
-use Rattle.lines.specs.MessagesLaws.{EndsIn, message-starts, message-none, text-ends}
+use Rattle.lines.specs.Messages.{Message as Form, message, asksTotal, notOfThisForm, isAsking, messageOf}
+use Rattle.lines.specs.MessagesLaws.{EndsIn, message-starts, message-asks, message-none, text-ends}
 use Rattle.numbers.specs.Numbers.{longAt}
 use Rattle.numbers.specs.MessageLaws.{message-missed, message-ends, message-found}
 use Rattle.numbers.specs.declared.Long.the-variants.{At, Bad as Bad·l}
 use Rattle.entitlements.specs.declared.Kind.{Kind}
 use Rattle.entitlements.specs.declared.Kind.the-variants.{Activate, Cancel}
-use Rattle.entry.specs.declared.Stated.the-variants.{Message, Bad}
+use Rattle.entry.specs.declared.Stated.the-variants.{Message, Total, Bad}
 use Rattle.entry.specs.Stated.{letterOf, kindOf, statedBy, statedOf, statedAfter}
 
 -- ---- a line after the letter of a kind and a space
@@ -42,7 +42,7 @@ module _ (kind : Kind) (line : List ℕ) where
         ∙ ap (λ (k : Kind). Message k n (length line - length (drop (end + 1) line))) (kind-letter kind)
         ∙ ap (Message kind n) at
 
--- ---- a line that starts with a letter and a space, and one that does not
+-- ---- a line that starts with a letter and a space, one that asks for the total, and any other
 
 module _ (line : List ℕ) where
   pub stated-starts : (kind : Kind) → startsWith line (letterOf kind ∷ 32 ∷ []) ≡ true → statedOf line ≡ statedAfter kind line
@@ -50,9 +50,14 @@ module _ (line : List ℕ) where
   stated-starts Activate e = ap (statedBy line) (message-starts 65 refl refl line e)
   stated-starts Cancel e = ap (statedBy line) (message-starts 67 refl refl line e)
 
-  pub stated-none : startsWith line (65 ∷ 32 ∷ []) ≡ false → startsWith line (67 ∷ 32 ∷ []) ≡ false → statedOf line ≡ Bad
+  pub stated-asks : isAsking line ≡ true → statedOf line ≡ Total
   unfolding statedOf
-  stated-none a c = ap (statedBy line) (message-none line a c)
+  stated-asks e = ap (statedBy line) (message-asks line e)
+
+  pub stated-none : startsWith line (65 ∷ 32 ∷ []) ≡ false → startsWith line (67 ∷ 32 ∷ []) ≡ false → isAsking line ≡ false
+      → statedOf line ≡ Bad
+  unfolding statedOf
+  stated-none a c n = ap (statedBy line) (message-none line a c n)
 
 -- ---- the line's form by the message that it states
 
@@ -70,7 +75,17 @@ module _ (line : List ℕ) where
     where
       bad : (f : Form) → statedBy line f ≡ Bad → f ≡ notOfThisForm
       bad (message letter number text) e = let z : _≡_ {A = ℕ} 0 1 = cc in absurd (omega arith)
+      bad asksTotal e = let z : _≡_ {A = ℕ} 0 1 = cc in absurd (omega arith)
       bad notOfThisForm e = refl
+
+  pub stated-total : statedOf line ≡ Total → messageOf line ≡ asksTotal
+  unfolding statedOf
+  stated-total = total (messageOf line)
+    where
+      total : (f : Form) → statedBy line f ≡ Total → f ≡ asksTotal
+      total (message letter number text) e = let z : _≡_ {A = ℕ} 0 1 = cc in absurd (omega arith)
+      total asksTotal e = refl
+      total notOfThisForm e = let z : _≡_ {A = ℕ} 0 1 = cc in absurd (omega arith)
 
   pub stated-message : {kind : Kind} {number at : ℕ} → statedOf line ≡ Message kind number at → States line kind number at
   unfolding statedOf
@@ -86,4 +101,5 @@ module _ (line : List ℕ) where
             says = f ∙ ap₂ (message letter) its-number (h .rest ∙ ap (λ (k : ℕ). drop k line) start);
             within = omega (arith, start);
           }
+      of asksTotal f h e = let z : _≡_ {A = ℕ} 0 1 = cc in absurd (omega arith)
       of notOfThisForm f h e = let z : _≡_ {A = ℕ} 0 1 = cc in absurd (omega arith)

@@ -1,9 +1,11 @@
--- Lines of messages, as `A 17 CODE`: a letter, a space, the message number, a space and the rest of the line. Assumes nothing.
+-- Lines of messages, as `A 17 CODE`: a letter, a space, the message number, a space and the rest of the line; and the line `T`, which
+-- asks for the total. Assumes nothing.
 use Prim.Native.Nat.{ℕ}
 use Prim.Native.Char.{code}
 use mathlib.Core.Bool.{Bool, cond, _||_}
 use mathlib.Core.List.{List, [], _∷_}
 use lib.Dec.{eqb}
+use Rattle.facts.specs.Texts.{bytes, sameText}
 use Rattle.lines.specs.Lines.{isWithin, value}
 
 -- the message number: decimal, no leading zero but in `0`, at most 18,446,744,073,709,551,615
@@ -25,9 +27,10 @@ unfoldable pub part : List ℕ → Parted
 part [] = unparted
 part (x ∷ text) = cond (eqb x (code " ")) (parted [] text) (led x (part text))
 
--- what stands in a line: a message by its letter, its number and its text, or a line not of this form
+-- what stands in a line: a message by its letter, its number and its text, the question for the total, or a line not of this form
 pub data Message : Type 0 where
   message : (letter number : ℕ) (text : List ℕ) → Message
+  asksTotal : Message
   notOfThisForm : Message
 
 -- `A` or `C` (activate, cancel)
@@ -46,6 +49,10 @@ lettered (parted (b ∷ []) rest) = cond (isLetter b) (numbered b (part rest)) n
 lettered (parted (b ∷ x ∷ word) rest) = notOfThisForm
 lettered unparted = notOfThisForm
 
+-- `T` and nothing else (total)
+abbrev pub isAsking : List ℕ → Bool
+isAsking line = sameText line (bytes "T")
+
 -- the message of a line
 unfoldable pub messageOf : List ℕ → Message
-messageOf line = lettered (part line)
+messageOf line = cond (isAsking line) asksTotal (lettered (part line))

@@ -12,7 +12,7 @@ use Rattle.lines.specs.Answers.{Serving}
 use Rattle.lines.specs.Automaton.{Coming, more, answer, reply, next, ended, last}
 
 -- a number of so many digits at most
-spelling-short : (count n : ℕ) → length (spelling count n) ≤ count
+pub spelling-short : (count n : ℕ) → length (spelling count n) ≤ count
 unfolding spelling
 spelling-short zero n = omega arith
 spelling-short (suc count) n = pick (spelling-short count (n / 10)) (ltb n 10)

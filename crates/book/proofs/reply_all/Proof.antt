@@ -21,12 +21,12 @@ abbrev comes : ℕ → ℕ → Account → List ℕ → Coming Account
 comes number len account room = coming (record { number = number; len = len }) account room
 
 abbrev Inv-loop : tie.InvT-loop
-Inv-loop bytes room₀ out₀ high₀ low₀ active₀ last₀ number₀ len₀ put₀ i₀ room out high low active last number len put i =
+Inv-loop bytes room₀ out₀ high₀ low₀ active₀ last₀ total₀ number₀ len₀ put₀ i₀ room out high low active last total number len put i =
     (length room ≡ length room₀) × (length out ≡ length out₀)
-    × Replying (posting processing) (comes number₀ len₀ (accountOf high₀ low₀ active₀ last₀) room₀) bytes out₀ (comes number len (accountOf high low active last) room) out put i
+    × Replying (posting processing) (comes number₀ len₀ (accountOf high₀ low₀ active₀ last₀ total₀) room₀) bytes out₀ (comes number len (accountOf high low active last total) room) out put i
 
 abbrev μ-loop : tie.MeasureT-loop
-μ-loop bytes room₀ out₀ high₀ low₀ active₀ last₀ number₀ len₀ put₀ i₀ room out high low active last number len put i = length bytes - i
+μ-loop bytes room₀ out₀ high₀ low₀ active₀ last₀ total₀ number₀ len₀ put₀ i₀ room out high low active last total number len put i = length bytes - i
 
 loop-holds : tie.Need-loop-holds Inv-loop μ-loop
 loop-holds c =
@@ -54,7 +54,7 @@ loop-less c = search needs
 loop-again : tie.Need-loop-again Inv-loop μ-loop
 loop-again c =
     let here = c .before .before .before .before .before .before .before .before .before .before .before .before .before .before .before .before .before .loop in
-    let account = accountOf (here .high) (here .low) (here .active) (here .last) in
+    let account = accountOf (here .high) (here .low) (here .active) (here .last) (here .total) in
     let less = c .before .before .before .before .before .before .before .before .before .before .before .before .before .before .before .before .loop-test .taken in
     let feed = c .before .before .before .before .before .before .before .before .before .before .before .before .before .before .if1 .taken in
     let fed = byte-feed (posting processing) (comes (here .number) (here .len) account (here .room)) _ feed in
@@ -62,7 +62,7 @@ loop-again c =
     let step = posted .result .step in
     let left =
     c .before .put-step .ensures
-    ∙ stepped-last step (here .high) (here .low) (here .active) (step .last) (here .last)
+    ∙ stepped-last step (here .high) (here .low) (here .active) (step .last) (step .total) (here .last) (here .total)
     ∙ posted .ensures .0 in
     let on = ap₂ (λ (n : ℕ) (a : Account). comes n 0 a (here .room)) (c .wrapping-add-u64 .ensures) left ∙ sym (fed .0) in
     (search needs, search needs, replying-step (here .inv .2) less on (rw (fed .1) (posted .ensures .1)))
@@ -77,7 +77,7 @@ loop-again-2 : tie.Need-loop-again-2 Inv-loop μ-loop
 loop-again-2 c =
     let here = c .before .before .before .before .before .before .before .loop in
     let other = c .before .before .before .before .if1 .left in
-    let grew = byte-more (posting processing) (comes (here .number) (here .len) (accountOf (here .high) (here .low) (here .active) (here .last)) (here .room)) _ other in
+    let grew = byte-more (posting processing) (comes (here .number) (here .len) (accountOf (here .high) (here .low) (here .active) (here .last) (here .total)) (here .room)) _ other in
     let added = c .before .before .add .ensures in
     let none = put-nothing (here .out) (here .put) in
     (search needs, search needs, replying-step (here .inv .2) (search needs) (rw (grew .0, added .0, added .1)) (rw (grew .1) none))
