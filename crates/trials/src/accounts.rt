@@ -1,5 +1,7 @@
-// A message to an account: the answer to `message KIND NUMBER ACCOUNT TEXT`. ACCOUNT is `LAST COUNT` and
-// then for each place `PLACE ACTIVE HIGH LOW`, places rising; those that are not listed are all 0.
+// Messages to an account and its total: the answers to `message KIND NUMBER ACCOUNT TEXT` and to `total
+// ACCOUNT`. ACCOUNT is `LAST TOTAL COUNT` and then for each of COUNT places `PLACE ACTIVE HIGH LOW`,
+// places rising; those that are not listed are all 0. A position of 0 says that no number stood there:
+// none ends at a line's first byte.
 use entitlements::Account;
 use entitlements::Answer;
 use entitlements::Answered;
@@ -7,16 +9,21 @@ use entitlements::Kind;
 use numbers::Long;
 use places::PLACES;
 
-// What is asked: the message, and the last number and the count of places of the account.
-struct Asked {
-    kind: Kind,
-    number: u64,
+// The start of an account: its last number, its total, how many places follow, and the position after it.
+struct Head {
     last: u64,
+    total: u64,
     count: u64,
+    end: usize,
 }
 
-// How far a place was read: the lowest place that may come next, and the position after it, which is the
-// text's end where no place stood.
+// The account that a request states, and the position after it.
+struct Handed {
+    account: Account,
+    end: usize,
+}
+
+// How far a place was read: the lowest place that may come next, and the position after it.
 struct Listed {
     next: u64,
     end: usize,
@@ -24,12 +31,39 @@ struct Listed {
 
 pub(crate) fn answer(text: &[u8], out: &mut [u8], at: usize) -> usize {
     if lines::starts(text, b"message A ") {
-        return answer_kind(Kind::Activate, text, out, at);
+        return answer_message(Kind::Activate, text, out, at);
     }
     if lines::starts(text, b"message C ") {
-        return answer_kind(Kind::Cancel, text, out, at);
+        return answer_message(Kind::Cancel, text, out, at);
     }
     at
+}
+
+// The answer to a request for the total, which the account ends.
+pub(crate) fn answer_total(text: &[u8], out: &mut [u8], at: usize) -> usize {
+    let handed = account_at(text, 5);
+    if handed.end != text.len() {
+        return at;
+    }
+    output::put_decimal(out, at, entitlements::total(handed.account))
+}
+
+// The answer to a message, whose text is the rest of the line after one more space.
+fn answer_message(kind: Kind, text: &[u8], out: &mut [u8], at: usize) -> usize {
+    let number = numbers::long_at(text, 10);
+    let Long::At(number, end) = number else {
+        return at;
+    };
+    let handed = account_at(text, end);
+    let end = handed.end;
+    if text.len() <= end {
+        return at;
+    }
+    if text[end] != b' ' {
+        return at;
+    }
+    let answered = message::send(kind, handed.account, &text[end + 1..], number);
+    put_answered(answered, out, at)
 }
 
 // The number that stands after one space at a position.
@@ -43,50 +77,51 @@ fn after_space(text: &[u8], at: usize) -> Long {
     numbers::long_at(text, at + 1)
 }
 
-// The answer to a request that names the kind.
-fn answer_kind(kind: Kind, text: &[u8], out: &mut [u8], at: usize) -> usize {
-    let number = numbers::long_at(text, 10);
-    let Long::At(number, end) = number else {
-        return at;
+// The start of the account that stands at a position.
+fn head_at(text: &[u8], at: usize) -> Head {
+    let none = Head {
+        last: 0,
+        total: 0,
+        count: 0,
+        end: 0,
     };
-    let last = after_space(text, end);
+    let last = after_space(text, at);
     let Long::At(last, end) = last else {
-        return at;
+        return none;
+    };
+    let total = after_space(text, end);
+    let Long::At(total, end) = total else {
+        return none;
     };
     let count = after_space(text, end);
     let Long::At(count, end) = count else {
-        return at;
+        return none;
     };
-    let asked = Asked {
-        kind,
-        number,
+    Head {
         last,
+        total,
         count,
-    };
-    answer_asked(asked, text, end, out, at)
+        end,
+    }
 }
 
-// The answer to a request whose places start at a position.
-fn answer_asked(asked: Asked, text: &[u8], from: usize, out: &mut [u8], at: usize) -> usize {
+// The account that stands at a position.
+fn account_at(text: &[u8], at: usize) -> Handed {
+    let head = head_at(text, at);
     let mut high = [0u64; PLACES];
     let mut low = [0u64; PLACES];
     let mut active = [0u64; PLACES];
-    let end = fill(asked.count, text, from, &mut high, &mut low, &mut active);
-    if text.len() <= end {
-        return at;
+    let end = fill(head.count, text, head.end, &mut high, &mut low, &mut active);
+    Handed {
+        account: Account {
+            high,
+            low,
+            active,
+            last: head.last,
+            total: head.total,
+        },
+        end,
     }
-    if text[end] != b' ' {
-        return at;
-    }
-    let account = Account {
-        high,
-        low,
-        active,
-        last: asked.last,
-    };
-    let kind = asked.kind;
-    let answered = message::send(kind, account, &text[end + 1..], asked.number);
-    put_answered(answered, out, at)
 }
 
 // Fills in the places that a request lists, and says the position after them.
@@ -102,8 +137,8 @@ fn fill(
     let mut i = 0;
     while i < count {
         listed = fill_place(listed, text, high, low, active);
-        if text.len() <= listed.end {
-            return listed.end;
+        if listed.end == 0 {
+            return 0;
         }
         i += 1;
     }
@@ -118,10 +153,7 @@ fn fill_place(
     low: &mut [u64],
     active: &mut [u64],
 ) -> Listed {
-    let none = Listed {
-        next: 0,
-        end: text.len(),
-    };
+    let none = Listed { next: 0, end: 0 };
     let found = after_space(text, before.end);
     let Long::At(place, end) = found else {
         return none;
@@ -142,11 +174,11 @@ fn fill_place(
 }
 
 // Puts the number that stands after one space at a position into an array, and says the position after
-// it, which is the text's end where none stood.
+// it.
 fn fill_number(text: &[u8], at: usize, array: &mut [u64], i: usize) -> usize {
     let found = after_space(text, at);
     let Long::At(number, end) = found else {
-        return text.len();
+        return 0;
     };
     if i < array.len() {
         array[i] = number;
@@ -160,6 +192,7 @@ fn put_answered(answered: Answered, out: &mut [u8], at: usize) -> usize {
     let account = answered.account;
     let end = put_answer(answer, out, at);
     let end = put_number(out, end, account.last);
+    let end = put_number(out, end, account.total);
     let high = account.high;
     let low = account.low;
     let active = account.active;

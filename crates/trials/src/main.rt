@@ -12,6 +12,7 @@
 //     odd LAT LON COORDINATE..                    whether the point has an odd count
 //     inside LEVEL WEST SOUTH COORDINATE..        whether the cell is inside
 //     message KIND NUMBER ACCOUNT TEXT            answers a word or a number, and the account afterwards
+//     total ACCOUNT                               answers its total
 mod accounts;
 mod codes;
 mod questions;

@@ -53,6 +53,9 @@ fn answer(text: &[u8], out: &mut [u8], at: usize) -> usize {
     if lines::starts(text, b"message ") {
         return accounts::answer(text, out, at);
     }
+    if lines::starts(text, b"total ") {
+        return accounts::answer_total(text, out, at);
+    }
     questions::answer(text, out, at)
 }
 
