@@ -1,5 +1,5 @@
 -- The messages that the lines of an input state, and what the theorem of the history says of these: of the account at the end of every
--- input, however reads cut it, and of the replies that were written. Assumes nothing.
+-- input, however reads cut it, of the replies that were written, and of the total that a line asks for. Assumes nothing.
 use Prim.Native.Nat.{ℕ, _+_, _-_, _^_, _<_}
 use Prim.Native.Char.{code}
 use native.Mathlib.Omega.{arith}
@@ -16,10 +16,13 @@ use Rattle.history.specs.History.{Message, after, sent, one, times, Kept}
 use Rattle.history.specs.HistoryLaws.{after-append, sent-append, times-append, kept}
 use Rattle.lines.specs.Lines.{Reply, refused, saying, longest, linesOf}
 use Rattle.lines.specs.Messages.{Message as Form, message as stating, asksTotal, notOfThisForm, messageOf}
-use Rattle.lines.specs.Answers.{saidFrom, stateFrom}
+use Rattle.lines.specs.Answers.{Served, saidFrom, stateFrom}
 use Rattle.lines.specs.Automaton.{first, final, together, after as read}
+use Rattle.places.specs.Places.{countActive}
 use Rattle.entry.specs.Stated.{kindOf}
+use Rattle.entry.specs.StatedLaws.{stated-asks}
 use Rattle.book.specs.Said.{replyOf, totalSaid, answered, formPosted, posting}
+use Rattle.book.specs.SaidLaws.{posting-total}
 use Rattle.book.specs.Whole.{whole-account}
 
 -- ---- the messages of an input
@@ -62,12 +65,15 @@ lines-after (line ∷ lines) account =
     ∙ ap (λ (a : Account). after a (messagesOf lines)) (line-after account line)
     ∙ sym (after-append (messageOn line) (messagesOf lines) account)
 
--- So the theorem of the history is of the account at the end of every input
+-- So the theorem of the history is of the account after any lines
+pub lines-kept : (lines : List (List ℕ)) → Kept (stateFrom (posting message) empty lines) (sent empty (messagesOf lines))
+lines-kept lines = rw (lines-after lines empty) (kept (messagesOf lines))
+
+-- and at the end of every input
 pub whole-kept : (room : List ℕ) (reads : List (List ℕ)) → longest < length room → 1 + length (together reads) < 2 ^ 64
     → Kept (final (posting processing) (read (posting processing) (first room empty) (together reads)))
     (sent empty (messagesOf (linesOf (together reads))))
-whole-kept room reads h few =
-    rw (whole-account room reads h few, lines-after (linesOf (together reads)) empty) (kept (messagesOf (linesOf (together reads))))
+whole-kept room reads h few = rw (whole-account room reads h few) (lines-kept (linesOf (together reads)))
 
 -- ---- the replies to them
 
@@ -123,13 +129,37 @@ module _ (w : ℕ) (rest : List ℕ) (other : eqb (code "r") w ≡ false) (anoth
       ∙ sym parts
       ∙ ap (times words) (sym (sent-append (messageOn line) (messagesOf lines) account))
 
--- So the total at the end of every input is the number of the replies `activated` less that of the replies `cancelled`
+-- So after any lines the total is the number of the replies `activated` less that of the replies `cancelled`
+abbrev pub less : List (List ℕ) → ℕ
+less lines =
+    repliesIn (bytes "activated") (saidFrom (posting message) empty lines) - repliesIn (bytes "cancelled") (saidFrom (posting message) empty lines)
+
+pub lines-number : (lines : List (List ℕ)) → stateFrom (posting message) empty lines .total ≡ less lines
+lines-number lines =
+    lines-kept lines .number
+    ∙ ap₂ _-_ (sym (lines-words (code "a") (bytes "ctivated") refl refl lines empty)) (sym (lines-words (code "c") (bytes "ancelled") refl refl lines empty))
+
+-- and so at the end of every input, however reads cut it
 pub whole-number : (room : List ℕ) (reads : List (List ℕ)) → longest < length room → 1 + length (together reads) < 2 ^ 64
-    → final (posting processing) (read (posting processing) (first room empty) (together reads)) .total
-    ≡ repliesIn (bytes "activated") (saidFrom (posting message) empty (linesOf (together reads)))
-    - repliesIn (bytes "cancelled") (saidFrom (posting message) empty (linesOf (together reads)))
+    → final (posting processing) (read (posting processing) (first room empty) (together reads)) .total ≡ less (linesOf (together reads))
 whole-number room reads h few =
-    whole-kept room reads h few .number
-    ∙ ap₂ _-_
-    (sym (lines-words (code "a") (bytes "ctivated") refl refl (linesOf (together reads)) empty))
-    (sym (lines-words (code "c") (bytes "ancelled") refl refl (linesOf (together reads)) empty))
+    ap (λ (account : Account). account .total) (whole-account room reads h few) ∙ lines-number (linesOf (together reads))
+
+-- ---- the total asked for
+
+-- a line `T` is told the total that is kept
+asked : (account : Account) → posting message account (bytes "T") .reply ≡ totalSaid (account .total)
+asked account =
+    ap (λ (served : Served Account). served .reply) (posting-total message account (bytes "T") (omega arith) (stated-asks (bytes "T") refl))
+
+module _ (lines : List (List ℕ)) where
+  abbrev found : Account
+  found = stateFrom (posting message) empty lines
+
+  -- which after any lines is how many places are active
+  pub asked-count : posting message found (bytes "T") .reply ≡ totalSaid (countActive (found .active))
+  asked-count = asked found ∙ ap totalSaid (lines-kept lines .total)
+
+  -- and the replies `activated` until then less the replies `cancelled`
+  pub asked-number : posting message found (bytes "T") .reply ≡ totalSaid (less lines)
+  asked-number = asked found ∙ ap totalSaid (lines-number lines)

@@ -93,6 +93,7 @@ fn lowered(total: u64) -> u64
 fn activation(active: &[u64; PLACES], place: usize, code: Halves, number: u64, total: u64) -> Change
     ensures { λ r. ⌜ r ≡ activating (now (active .entry)) place code number total ⌝ }
 {
+    let more = raised(total);
     if place < PLACES {
         return keep(Answer::Already, number, total);
     }
@@ -102,7 +103,7 @@ fn activation(active: &[u64; PLACES], place: usize, code: Halves, number: u64, t
             answer: Answer::Activated,
             step: Step {
                 last: number,
-                total: raised(total),
+                total: more,
                 place: free,
                 code,
                 active: 1,
@@ -116,12 +117,13 @@ fn activation(active: &[u64; PLACES], place: usize, code: Halves, number: u64, t
 fn cancellation(place: usize, number: u64, total: u64) -> Change
     ensures { λ r. ⌜ r ≡ cancelling place number total ⌝ }
 {
+    let less = lowered(total);
     if place < PLACES {
         return Change {
             answer: Answer::Cancelled,
             step: Step {
                 last: number,
-                total: lowered(total),
+                total: less,
                 place,
                 code: Halves { high: 0, low: 0 },
                 active: 0,

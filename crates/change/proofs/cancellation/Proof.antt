@@ -15,15 +15,15 @@ lowered-requires c κs = search needs
 returns : tie.Need-returns
 returns c =
     let asked = c .before .before .args in
-    ap (λ (total : ℕ). puts Cancelled (asked .number) total (asked .place) zeros 0) (c .lowered .ensures)
-    ∙ sym (cancelling-cleared (asked .place) (asked .number) (asked .total) (c .before .if1 .taken))
+    ap (λ (total : ℕ). puts Cancelled (asked .number) total (asked .place) zeros 0) (c .before .lowered .ensures)
+    ∙ sym (cancelling-cleared (asked .place) (asked .number) (asked .total) (c .if1 .taken))
 
 keep-requires : tie.Need-keep-requires
 keep-requires c κs = search needs
 
 returns-2 : tie.Need-returns-2
 returns-2 c =
-    let asked = c .before .before .args in
+    let asked = c .before .before .before .args in
     c .keep .ensures ∙ sym (cancelling-none (asked .place) (asked .number) (asked .total) (c .before .if1 .left))
 
 pub cancellation-spec : {M : Type 1} → statement M
