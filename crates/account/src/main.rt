@@ -1,5 +1,5 @@
-// The program over the account of document 02, request 3: a message a line on standard input, a reply a
-// line on standard output, from an empty account.
+// The program over the account of document 02, requests 3 and 5: a message or the question for the total
+// a line on standard input, a reply a line on standard output, from an empty account.
 //
 // What is written is decided in `book`; here bytes only come in and go out. The replies of a read are
 // written before the next read, in one piece. A read or a write that fails ends the program, which says

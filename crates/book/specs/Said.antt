@@ -1,4 +1,4 @@
--- What the program `account` says of a message line, and the account after it (docs/REGISTER.md, "Message lines"). What a message does
+-- What the program `account` says of a line, and the account after it (docs/REGISTER.md, "Message lines"). What a message does
 -- is a parameter: `message` tests the whole account first, `processing` does not. Assumes nothing.
 use Prim.Native.Nat.{ℕ}
 use mathlib.Core.Path.{_≡_}

@@ -12,6 +12,7 @@ ghost use Rattle.room.specs.Room.{Put};
 ghost use Rattle.lines.specs.Automaton.{after, ended, last};
 ghost use Rattle.entitlements.specs.Entitlements.{processing};
 ghost use Rattle.book.specs.Said.{posting, coming};
+use crate::post::post_held;
 use entitlements::Account;
 
 // The line that comes in: its number, and how many of its bytes stand in the room.
@@ -53,18 +54,8 @@ pub fn reply_all(
         let byte = bytes[i];
         i += 1;
         if byte == b'\n' {
-            let posted = post::post_held(
-                number,
-                &high,
-                &low,
-                &active,
-                last,
-                total,
-                room,
-                len,
-                out,
-                put,
-            );
+            let line = Line { number, len };
+            let posted = post_held(line, &high, &low, &active, last, total, room, out, put);
             let step = posted.step;
             change::put_step(&mut high, &mut low, &mut active, step);
             last = step.last;
@@ -97,15 +88,14 @@ pub fn reply_last(line: Line, account: Account, room: &[u8], out: &mut [u8]) -> 
     if line.len == 0 {
         return 0;
     }
-    let posted = post::post_held(
-        line.number,
+    let posted = post_held(
+        line,
         &account.high,
         &account.low,
         &account.active,
         account.last,
         account.total,
         room,
-        line.len,
         out,
         0,
     );

@@ -6,6 +6,7 @@ ghost use Rattle.lines.specs.Lines.{refused, replyLine};
 ghost use Rattle.entitlements.specs.Entitlements.{accountOf, says};
 ghost use Rattle.change.specs.Change.{stays};
 ghost use Rattle.book.specs.Said.{replyOf, totalSaid, replyTo, StepsBy};
+use crate::Line;
 use change::Step;
 use entitlements::Answer;
 use entry::Stated;
@@ -17,23 +18,24 @@ pub(crate) struct Posted {
     pub put: usize,
 }
 
-// The reply to a line whose first bytes stand in a room, in an account by its arrays, its last number and
-// its total.
+// The reply to a line that came in, whose first bytes stand in a room, in an account by its arrays, its
+// last number and its total.
 pub(crate) fn post_held<'a>(
-    number: u64,
+    line: Line,
     high: &'a [u64; PLACES],
     low: &'a [u64; PLACES],
     active: &'a [u64; PLACES],
     last: u64,
     total: u64,
     room: &[u8],
-    len: usize,
     out: &mut [u8],
     at: usize,
 ) -> Posted
-    ensures { λ r. ⌜ StepsBy (take len (now (room .entry))) (accountOf (now (high .entry)) (now (low .entry)) (now (active .entry)) last total) (r .step) ⌝ }
-    ensures { λ r. ⌜ Put (now (out .entry)) at (replyTo number (accountOf (now (high .entry)) (now (low .entry)) (now (active .entry)) last total) (take len (now (room .entry)))) (r .put) (now (out .exit)) ⌝ }
+    ensures { λ r. ⌜ StepsBy (take (line .len) (now (room .entry))) (accountOf (now (high .entry)) (now (low .entry)) (now (active .entry)) last total) (r .step) ⌝ }
+    ensures { λ r. ⌜ Put (now (out .entry)) at (replyTo (line .number) (accountOf (now (high .entry)) (now (low .entry)) (now (active .entry)) last total) (take (line .len) (now (room .entry)))) (r .put) (now (out .exit)) ⌝ }
 {
+    let number = line.number;
+    let len = line.len;
     if room.len() < len {
         return post_line(number, high, low, active, last, total, room, out, at);
     }

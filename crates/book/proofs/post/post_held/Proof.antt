@@ -15,13 +15,13 @@ same-length c = search needs
 returns : tie.Need-returns
 returns c =
     let asked = c .before .before .before .before .before .before .before .args in
-    let all = take-all (asked .len) (asked .room .now) (omega (arith, c .before .before .before .before .if1 .taken)) in
+    let all = take-all (asked .line .len) (asked .room .now) (omega (arith, c .before .before .before .before .if1 .taken)) in
     rw all (c .before .before .post-line .ensures)
 
 slice-aggregate-post-line : tie.Need-slice-aggregate-post-line
 slice-aggregate-post-line c =
     let asked = c .before .before .before .before .args in
-    sym (length-take-le (asked .len) (asked .room .now) (c .before .if1 .left))
+    sym (length-take-le (asked .line .len) (asked .room .now) (c .before .if1 .left))
 
 post-line-requires-2 : tie.Need-post-line-requires-2
 post-line-requires-2 c κs = search needs
