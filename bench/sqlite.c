@@ -1,8 +1,8 @@
 // The account by SQLite, as a measure for the proved one: a table of codes with a unique index, in memory.
-// A message a line comes in, as for the account's program, and the replies are the same. Lines have to be
-// of the right form, with numbers in range and codes that reading accepts: a line that cannot be taken
-// apart ends the program, and nothing else is checked. A code is kept as text or, with the word `pair`, as
-// two integers. README.md in this folder says what else was tried, and what it costs.
+// A message a line comes in, or `T`, which asks how many codes are active, as for the account's program, and
+// the replies are the same. Lines have to be of the right form, with numbers in range and codes that reading
+// accepts: a line that cannot be taken apart ends the program, and nothing else is checked. A code is kept as
+// text or, with the word `pair`, as two integers. README.md in this folder says what else was tried, and what it costs.
 #include <sqlite3.h>
 
 #include <stdbool.h>
@@ -15,7 +15,7 @@ enum { letters = 20, places = 256, room = 1 << 16, longest_reply = 64 };
 
 static bool pair;
 static sqlite3 *base;
-static sqlite3_stmt *insert, *delete, *find;
+static sqlite3_stmt *insert, *delete, *find, *count;
 
 static uint64_t lines, last;
 static int active;
@@ -63,6 +63,7 @@ static void open_base(void) {
         delete = prepared("DELETE FROM codes WHERE code = ?");
         find = prepared("SELECT 1 FROM codes WHERE code = ?");
     }
+    count = prepared("SELECT count(*) FROM codes");
     run("BEGIN");
 }
 
@@ -146,12 +147,7 @@ static void cancel(const char *code) {
     }
 }
 
-// Answers a line that ends before `end`, where a line feed or a byte 0 stands.
-static void answer(const char *line, const char *end) {
-    ++lines;
-    if ((line[0] != 'A' && line[0] != 'C') || line[1] != ' ') {
-        fail("no message");
-    }
+static void answer_message(const char *line, const char *end) {
     const char *at = line + 2;
     uint64_t number = 0;
     while (*at >= '0' && *at <= '9') {
@@ -170,6 +166,30 @@ static void answer(const char *line, const char *end) {
         } else {
             cancel(at);
         }
+    }
+}
+
+// The base is asked: `active` is there for an account that is full, and is not what is measured.
+static void answer_total(void) {
+    write_number(lines);
+    if (sqlite3_step(count) != SQLITE_ROW) {
+        fail(sqlite3_errmsg(base));
+    }
+    reply(" total ");
+    write_number((uint64_t)sqlite3_column_int64(count, 0));
+    reply("\n");
+    sqlite3_reset(count);
+}
+
+// Answers a line that ends before `end`, where a line feed or a byte 0 stands.
+static void answer(const char *line, const char *end) {
+    ++lines;
+    if ((line[0] == 'A' || line[0] == 'C') && line[1] == ' ') {
+        answer_message(line, end);
+    } else if (line[0] == 'T' && end - line == 1) {
+        answer_total();
+    } else {
+        fail("no message");
     }
     if (written > room - longest_reply) {
         flush_replies();

@@ -1,6 +1,6 @@
 """Answers the judge's requests (judge/README.md) by the library: a request a line on standard input,
 an answer a line on standard output, for judge/gate/compare and library/try to hold against the judge's.
-It knows `write`, `read`, `plain`, `quick` and `message`, and answers `?` to every other line."""
+It knows `write`, `read`, `plain`, `quick`, `message` and `total`, and answers `?` to every other line."""
 import re
 import sys
 
@@ -69,8 +69,8 @@ def parts(count, rest):
 
 def account_in(rest):
     """The account that a request has, and the text after it."""
-    last, count, rest = first_numbers(2, rest)
-    account, least = Account(last=last), 0
+    last, total, count, rest = first_numbers(3, rest)
+    account, least = Account(last=last, total=total), 0
     for _ in range(count):
         place, active, high, low, rest = first_numbers(4, rest)
         # More than 256 places cannot rise, so no count needs a bound of its own.
@@ -84,7 +84,8 @@ def account_in(rest):
 def account_words(account):
     kept = zip(range(PLACES), account.active, account.high, account.low)
     listed = [place for place in kept if any(place[1:])]
-    return b" ".join(b"%d" % n for n in (account.last, len(listed), *(n for place in listed for n in place)))
+    numbers = (account.last, account.total, len(listed), *(n for place in listed for n in place))
+    return b" ".join(b"%d" % n for n in numbers)
 
 
 def answer_message(rest):
@@ -98,11 +99,21 @@ def answer_message(rest):
     return word + b" " + account_words(account)
 
 
+def answer_total(rest):
+    # A space after every number, as where a text follows: the account then leaves nothing.
+    account, more = account_in(rest + b" ")
+    if more:
+        raise NoRequest
+    return b"%d" % account.total
+
+
 def answer(line):
     if line.startswith(b"read "):
         return answer_read(line[5:])
     if line.startswith(b"message "):
         return answer_message(line[8:])
+    if line.startswith(b"total "):
+        return answer_total(line[6:])
     what, *words = line.split(b" ")
     if what == b"write":
         return answer_write(words)

@@ -81,17 +81,23 @@ static const char case_1[] = "0W7ARCTDHYYRA99A0001", case_5[] = "00000000001TH11
 
 /* An account. Empty at first: all of it is 0. */
 #define PLACES LINENSPRUCE_PLACES
-static uint64_t high[PLACES], low[PLACES], active[PLACES], last;
+static uint64_t high[PLACES], low[PLACES], active[PLACES], last, total;
 
 static void show_half(uint64_t half) {
     for (int shift = 45; shift >= 0; shift -= 5) putchar("0123456789ABCDEFGHJKLMNPQRTUVWXY"[half >> shift & 31]);
 }
 
-/* Shows the answer and the active codes, and keeps the last number for the next message. */
+/* Shows the answer, and keeps the last number and the total for the next message. */
+static void show_kept(const char *what, struct linenspruce_lent lent) {
+    last = lent.last, total = lent.total;
+    printf("%s %u last %llu", what, (unsigned)lent.answer, (unsigned long long)last);
+    printf(" total %llu [", (unsigned long long)total);
+}
+
+/* Shows the answer and the active codes. */
 static void show_lent(const char *what, struct linenspruce_lent lent) {
     const char *between = "";
-    last = lent.last;
-    printf("%s %u %llu [", what, (unsigned)lent.answer, (unsigned long long)last);
+    show_kept(what, lent);
     for (int i = 0; i < PLACES; i++) {
         if (active[i] == 0) continue;
         fputs(between, stdout);
@@ -103,11 +109,11 @@ static void show_lent(const char *what, struct linenspruce_lent lent) {
 }
 
 static struct linenspruce_lent activate(const void *text, size_t length, uint64_t number) {
-    return linenspruce_activate(high, PLACES, low, PLACES, active, PLACES, last, text, length, number);
+    return linenspruce_activate(high, PLACES, low, PLACES, active, PLACES, last, total, text, length, number);
 }
 
 static struct linenspruce_lent cancel(const void *text, size_t length, uint64_t number) {
-    return linenspruce_cancel(high, PLACES, low, PLACES, active, PLACES, last, text, length, number);
+    return linenspruce_cancel(high, PLACES, low, PLACES, active, PLACES, last, total, text, length, number);
 }
 
 /* Activated twice, already, old, cancelled, not active, and the free place used again. */
@@ -121,34 +127,37 @@ static void messages(void) {
     show_lent("activate", activate(case_1, 20, 8));
 }
 
-/* A text with an O, an empty one, message numbers out of range, arrays of another length, empty ones, and
- * a code that is active twice. */
+/* A text with an O, an empty one, message numbers out of range, arrays of another length, empty ones, a total
+ * of 1 where two codes are active, and a code that is active twice. */
 static void refused_messages(void) {
     const uint8_t *code = (const uint8_t *)case_5;
     show_lent("activate", activate("00000000001TH112000O", 20, 9));
     show_lent("cancel", cancel(NULL, 0, 9));
     show_lent("activate", activate(case_5, 20, 0));
     show_lent("cancel", cancel(case_5, 20, 1099511627776));
-    show_lent("activate", linenspruce_activate(high, 255, low, PLACES, active, PLACES, last, code, 20, 9));
-    show_lent("cancel", linenspruce_cancel(NULL, 0, NULL, 0, NULL, 0, last, code, 20, 9));
-    high[2] = high[1], low[2] = low[1], active[2] = 1;
+    show_lent("activate", linenspruce_activate(high, 255, low, PLACES, active, PLACES, last, total, code, 20, 9));
+    show_lent("cancel", linenspruce_cancel(NULL, 0, NULL, 0, NULL, 0, last, total, code, 20, 9));
+    total = 1;
+    show_lent("cancel", cancel(case_5, 20, 9));
+    high[2] = high[1], low[2] = low[1], active[2] = 1, total = 3;
     show_lent("cancel", cancel(case_5, 20, 9));
 }
 
-/* Buildings 1 to 257 of case 1's ground: the last finds the account full. */
+/* Buildings 1 to 257 of case 1's ground: the last finds the account full. The total is what counting finds. */
 static void full(void) {
     struct linenspruce_fields fields = linenspruce_read((const uint8_t *)case_1, 20).fields;
-    struct linenspruce_lent lent = {0, 0};
+    struct linenspruce_lent lent = {0, 0, 0};
     int codes = 0;
     memset(active, 0, sizeof active);
-    last = 0;
+    last = total = 0;
     for (fields.number = 1; fields.number <= PLACES + 1; fields.number++) {
         linenspruce_write(room, sizeof room, fields);
         lent = activate(room, LINENSPRUCE_CODE, fields.number);
-        last = lent.last;
+        last = lent.last, total = lent.total;
     }
     for (int i = 0; i < PLACES; i++) codes += active[i] != 0;
-    printf("activate %u %llu [%d codes]\n", (unsigned)lent.answer, (unsigned long long)last, codes);
+    show_kept("activate", lent);
+    printf("%d codes]\n", codes);
 }
 
 int main(void) {

@@ -83,7 +83,12 @@ CASE_1, CASE_5 = b"0W7ARCTDHYYRA99A0001", b"00000000001TH1120000"
 
 def show_answer(what, answer, account):
     codes = b" ".join(account.codes()).decode("ascii")
-    print("%s %d %d [%s]" % (what, answer.value, account.last, codes))
+    print("%s %d last %d total %d [%s]" % (what, answer.value, account.last, account.total, codes))
+
+
+def show_lent(what, lent, account):
+    answer, account.last, account.total = lent
+    show_answer(what, answer, account)
 
 
 def show_activate(account, text, number):
@@ -107,27 +112,29 @@ def messages(account):
 
 def refused_messages(account):
     """A text with an O, an empty one, message numbers out of range, arrays of another length, empty
-    ones, and a code that is active twice."""
-    high, low, active = account.high, account.low, account.active
+    ones, a total of 1 where two codes are active, and a code that is active twice."""
+    high, low, active, none = account.high, account.low, account.active, array("Q")
     show_activate(account, b"00000000001TH112000O", 9)
     show_cancel(account, b"", 9)
     show_activate(account, CASE_5, 0)
     show_cancel(account, CASE_5, 1099511627776)
-    answer, account.last = activate(high[:255], low, active, account.last, CASE_5, 9)
-    show_answer("activate", answer, account)
-    answer, account.last = cancel(array("Q"), array("Q"), array("Q"), account.last, CASE_5, 9)
-    show_answer("cancel", answer, account)
-    high[2], low[2], active[2] = high[1], low[1], 1
+    show_lent("activate", activate(high[:255], low, active, account.last, account.total, CASE_5, 9), account)
+    show_lent("cancel", cancel(none, none[:], none[:], account.last, account.total, CASE_5, 9), account)
+    account.total = 1
+    show_cancel(account, CASE_5, 9)
+    high[2], low[2], active[2], account.total = high[1], low[1], 1, 3
     show_cancel(account, CASE_5, 9)
 
 
 def full():
-    """Buildings 1 to 257 of case 1's ground: the last finds the account full."""
+    """Buildings 1 to 257 of case 1's ground: the last finds the account full. The total is what counting
+    finds."""
     account, fields, room = Account(), read(CASE_1).fields, bytearray(CODE)
     for number in range(1, PLACES + 2):
         write(room, fields._replace(number=number))
         answer = account.activate(room, number)
-    print("activate %d %d [%d codes]" % (answer.value, account.last, len(account.codes())))
+    codes = len(account.codes())
+    print("activate %d last %d total %d [%d codes]" % (answer.value, account.last, account.total, codes))
 
 
 accepted()

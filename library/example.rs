@@ -4,7 +4,7 @@
 mod linenspruce;
 
 use linenspruce::{activate, cancel, code_plain, code_quick, read, write};
-use linenspruce::{Account, Answer, Fields, Kind, Reading, Reply, CODE, PLACES};
+use linenspruce::{Account, Answer, Fields, Kind, Lent, Reading, Reply, CODE, PLACES};
 
 /// The square of case 1, a building with unit number 1: latitude, longitude, latitude, ..
 const SQUARE: [u32; 8] = [
@@ -88,9 +88,19 @@ fn refused_reading_and_writing() {
 const CASE_1: &[u8] = b"0W7ARCTDHYYRA99A0001";
 const CASE_5: &[u8] = b"00000000001TH1120000";
 
+fn show_kept(what: &str, answer: Answer, account: &Account, codes: &str) {
+    println!("{what} {} last {} total {} [{codes}]", answer as u32, account.last, account.total);
+}
+
 fn show_answer(what: &str, answer: Answer, account: &Account) {
     let codes: Vec<[u8; CODE]> = account.codes().collect();
-    println!("{what} {} {} [{}]", answer as u32, account.last, String::from_utf8_lossy(&codes.join(&b' ')));
+    show_kept(what, answer, account, &String::from_utf8_lossy(&codes.join(&b' ')));
+}
+
+fn show_lent(what: &str, lent: Lent, account: &mut Account) {
+    account.last = lent.last;
+    account.total = lent.total;
+    show_answer(what, lent.answer, account);
 }
 
 fn show_activate(account: &mut Account, text: &[u8], number: u64) {
@@ -112,34 +122,36 @@ fn messages(account: &mut Account) {
     show_activate(account, CASE_1, 8);
 }
 
-/// A text with an O, an empty one, message numbers out of range, slices of another length, empty ones, and
-/// a code that is active twice.
+/// A text with an O, an empty one, message numbers out of range, slices of another length, empty ones, a total
+/// of 1 where two codes are active, and a code that is active twice.
 fn refused_messages(account: &mut Account) {
     show_activate(account, b"00000000001TH112000O", 9);
     show_cancel(account, b"", 9);
     show_activate(account, CASE_5, 0);
     show_cancel(account, CASE_5, 1099511627776);
     // The account's own arrays have no other length; those that are lent may.
-    let lent = activate(&mut account.high[..255], &mut account.low, &mut account.active, account.last, CASE_5, 9);
-    account.last = lent.last;
-    show_answer("activate", lent.answer, account);
-    let lent = cancel(&mut [], &mut [], &mut [], account.last, CASE_5, 9);
-    account.last = lent.last;
-    show_answer("cancel", lent.answer, account);
+    let Account { high, low, active, last, total } = account;
+    let lent = activate(&mut high[..255], low, active, *last, *total, CASE_5, 9);
+    show_lent("activate", lent, account);
+    let lent = cancel(&mut [], &mut [], &mut [], account.last, account.total, CASE_5, 9);
+    show_lent("cancel", lent, account);
+    account.total = 1;
+    show_cancel(account, CASE_5, 9);
     account.high[2] = account.high[1];
     account.low[2] = account.low[1];
     account.active[2] = 1;
+    account.total = 3;
     show_cancel(account, CASE_5, 9);
 }
 
-/// Buildings 1 to 257 of case 1's ground: the last finds the account full.
+/// Buildings 1 to 257 of case 1's ground: the last finds the account full. The total is what counting finds.
 fn full() {
     let (mut account, fields, mut room) = (Account::EMPTY, read(CASE_1).fields, [0; CODE]);
     for number in 1..=PLACES as u32 + 1 {
         write(&mut room, Fields { number, ..fields });
         let answer = account.activate(&room, number.into());
         if answer != Answer::Activated {
-            println!("activate {} {} [{} codes]", answer as u32, account.last, account.codes().count());
+            show_kept("activate", answer, &account, &format!("{} codes", account.codes().count()));
         }
     }
 }

@@ -41,15 +41,17 @@
  * where none is named the place is 0. Acceptance of coding and of writing writes bytes 0 to 19 of the
  * room and no others. A refusal writes nothing. There is no byte 0 after a code.
  *
- * An account is three arrays of 256 numbers, lent with each message, and a last number. Place i is active
- * where active[i] is not 0, and then holds the code whose first ten letters are high[i] and whose last ten
- * are low[i]: each ten letters as a number in base 32, first letter highest, by their places in
- * 0123456789ABCDEFGHJKLMNPQRTUVWXY. What a free place holds says nothing. An empty account is three arrays
- * of 256 zeros with the last number 0. The answer to a message is a number of its own:
+ * An account is three arrays of 256 numbers, lent with each message, a last number and a total. Place i is
+ * active where active[i] is not 0, and then holds the code whose first ten letters are high[i] and whose last
+ * ten are low[i]: each ten letters as a number in base 32, first letter highest, by their places in
+ * 0123456789ABCDEFGHJKLMNPQRTUVWXY. What a free place holds says nothing. The total is the number of active
+ * places. An empty account is three arrays of 256 zeros with the last number 0 and the total 0. The answer to
+ * a message is a number of its own:
  *
  *   a message (linenspruce_activate, linenspruce_cancel):
  *     40   refused, the account: an array whose length is not 256, one code active twice, an active place
- *          whose content is no code that reading accepts, or a last number above 1,099,511,627,775
+ *          whose content is no code that reading accepts, a last number above 1,099,511,627,775, or a
+ *          total that is not the count of its active places
  *     41   refused, the message number: 0 or above 1,099,511,627,775
  *     42   refused, the code: a text that reading refuses
  *      5   old: the message number is not above the last number
@@ -63,10 +65,11 @@
  *      4   not active: the code was not active
  *      3   cancelled: the code's place is 0 in all three arrays, and free again
  *
- * Again the first row that fits is told. Only 1 and 3 change the arrays, at that one place; after any
- * other answer they hold what they held. 1, 2, 3, 4 and 43 use up the message number: it is the last
- * number afterwards. After 5, 40, 41 and 42 the last number is as it was handed in. So the caller keeps
- * the three arrays and, from each answer, the last number, and hands them in with the next message.
+ * Again the first row that fits is told. Only 1 and 3 change the arrays, at that one place, and the total,
+ * by one up or down; after any other answer they are what they were. 1, 2, 3, 4 and 43 use up the message
+ * number: it is the last number afterwards. After 5, 40, 41 and 42 the last number is as it was handed in.
+ * So the caller keeps the three arrays and, from each answer, the last number and the total, and hands them
+ * in with the next message. No function is needed to ask how many codes are active: it is the total.
  *
  * Pointers: a pointer and the length after it name that many elements of the caller's memory, aligned
  * as their type is, which nothing else writes meanwhile; a room lies apart from the numbers, and the
@@ -156,19 +159,21 @@ struct linenspruce_reply linenspruce_write(
     struct linenspruce_fields fields);
 
 /* What a message is answered: a number of the table of messages, where 1 to 5 are not those of coding, and
- * the last number of the account afterwards. */
+ * the last number and the total of the account afterwards. */
 struct linenspruce_lent {
     uint32_t answer;
     uint64_t last;
+    uint64_t total;
 };
 
-/* Activates a code in an account: high, low, active and the last number are the account, text and number
- * the message. Answers 1, 2, 5 and 40 to 43. */
+/* Activates a code in an account: high, low, active, the last number and the total are the account, text and
+ * number the message. Answers 1, 2, 5 and 40 to 43. */
 struct linenspruce_lent linenspruce_activate(
     uint64_t *high, size_t high_length,
     uint64_t *low, size_t low_length,
     uint64_t *active, size_t active_length,
     uint64_t last,
+    uint64_t total,
     const uint8_t *text, size_t text_length,
     uint64_t number);
 
@@ -178,6 +183,7 @@ struct linenspruce_lent linenspruce_cancel(
     uint64_t *low, size_t low_length,
     uint64_t *active, size_t active_length,
     uint64_t last,
+    uint64_t total,
     const uint8_t *text, size_t text_length,
     uint64_t number);
 

@@ -84,10 +84,11 @@ class Answer(enum.Enum):
 
 
 class Lent(typing.NamedTuple):
-    """What a message to a lent account is answered, and the account's last number afterwards."""
+    """What a message to a lent account is answered, and the account's last number and total afterwards."""
 
     answer: Answer
     last: int
+    total: int
 
 
 def _struct(kind, base=ctypes.c_uint32):
@@ -109,7 +110,7 @@ class _Kind(ctypes.Structure):
 
 
 class _Lent(ctypes.Structure):
-    _fields_ = [("answer", ctypes.c_uint32), ("last", ctypes.c_uint64)]
+    _fields_ = [("answer", ctypes.c_uint32), ("last", ctypes.c_uint64), ("total", ctypes.c_uint64)]
 
 
 def _tuple(kind, struct):
@@ -138,7 +139,7 @@ def load(path=None):
     library.linenspruce_write.argtypes = _ROOM + [_Fields]
     library.linenspruce_write.restype = _Reply
     for message in (library.linenspruce_activate, library.linenspruce_cancel):
-        message.argtypes = _PLACES * 3 + [ctypes.c_uint64] + _TEXT + [ctypes.c_uint64]
+        message.argtypes = _PLACES * 3 + [ctypes.c_uint64] * 2 + _TEXT + [ctypes.c_uint64]
         message.restype = _Lent
     _library = library
     return library
@@ -230,47 +231,49 @@ def write(room, fields):
     return _tuple(Reply, _loaded().linenspruce_write(lent, len(lent), checked))
 
 
-def _send(message, high, low, active, last, text, number):
+def _send(message, high, low, active, last, total, text, number):
     lent = [(_places(places), len(places)) for places in (high, low, active)]
     if high is low or low is active or active is high:
         raise ValueError("an account's places are three arrays, each of its own")
-    last, text = _number("a last number", last, 1 << 64), _text(text)
-    number = _number("a message number", number, 1 << 64)
-    told = message(*lent[0], *lent[1], *lent[2], last, text, len(text), number)
-    return Lent(Answer(told.answer), told.last)
+    last, total = _number("a last number", last, 1 << 64), _number("a total", total, 1 << 64)
+    text, number = _text(text), _number("a message number", number, 1 << 64)
+    told = message(*lent[0], *lent[1], *lent[2], last, total, text, len(text), number)
+    return Lent(Answer(told.answer), told.last, told.total)
 
 
-def activate(high, low, active, last, text, number):
-    """Activates a code in an account that is lent as three arrays of typecode Q and its last number.
-    Arrays of another length than 256 are answered too: 40."""
-    return _send(_loaded().linenspruce_activate, high, low, active, last, text, number)
+def activate(high, low, active, last, total, text, number):
+    """Activates a code in an account that is lent as three arrays of typecode Q, its last number and its
+    total. Arrays of another length than 256 are answered too: 40."""
+    return _send(_loaded().linenspruce_activate, high, low, active, last, total, text, number)
 
 
-def cancel(high, low, active, last, text, number):
+def cancel(high, low, active, last, total, text, number):
     """Cancels a code in a lent account, likewise."""
-    return _send(_loaded().linenspruce_cancel, high, low, active, last, text, number)
+    return _send(_loaded().linenspruce_cancel, high, low, active, last, total, text, number)
 
 
 class Account:
-    """An account of entitlements: three arrays and the last number, as linenspruce.h has them. It is
-    empty, or what another one had: numbers of 0 to 18,446,744,073,709,551,615, of any length."""
+    """An account of entitlements: three arrays, the last number and the total, as linenspruce.h has them.
+    It is empty, or what another one had: numbers of 0 to 18,446,744,073,709,551,615, of any length. How
+    many codes are active is asked by its attribute `total`, which every message keeps true."""
 
-    def __init__(self, high=(0,) * PLACES, low=(0,) * PLACES, active=(0,) * PLACES, last=0):
+    def __init__(self, high=(0,) * PLACES, low=(0,) * PLACES, active=(0,) * PLACES, last=0, total=0):
         self.high, self.low, self.active = (
             array.array("Q", _listed("a place's number", places, 1 << 64)) for places in (high, low, active)
         )
         self.last = _number("a last number", last, 1 << 64)
+        self.total = _number("a total", total, 1 << 64)
 
     def activate(self, text, number):
         """Activates a code, and answers an Answer."""
-        return self._keep(activate(self.high, self.low, self.active, self.last, text, number))
+        return self._keep(activate(self.high, self.low, self.active, self.last, self.total, text, number))
 
     def cancel(self, text, number):
         """Cancels a code, likewise."""
-        return self._keep(cancel(self.high, self.low, self.active, self.last, text, number))
+        return self._keep(cancel(self.high, self.low, self.active, self.last, self.total, text, number))
 
     def _keep(self, lent):
-        self.last = lent.last
+        self.last, self.total = lent.last, lent.total
         return lent.answer
 
     def codes(self):

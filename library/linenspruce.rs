@@ -74,20 +74,23 @@ pub enum Answer {
     Full = 43,
 }
 
-/// What a message to a lent account is answered, and the account's last number afterwards.
+/// What a message to a lent account is answered, and the account's last number and total afterwards.
 #[derive(Clone, Copy, Debug, PartialEq, Eq)]
 pub struct Lent {
     pub answer: Answer,
     pub last: u64,
+    pub total: u64,
 }
 
-/// An account of entitlements: three arrays and the last number, as linenspruce.h has them.
+/// An account of entitlements: three arrays, the last number and the total, as linenspruce.h has them. How
+/// many codes are active is asked by its `total`, which every message keeps true.
 #[derive(Clone, Debug, PartialEq, Eq)]
 pub struct Account {
     pub high: [u64; PLACES],
     pub low: [u64; PLACES],
     pub active: [u64; PLACES],
     pub last: u64,
+    pub total: u64,
 }
 
 /// The functions as C declares them.
@@ -103,6 +106,7 @@ mod c {
     pub struct Lent {
         pub answer: u32,
         pub last: u64,
+        pub total: u64,
     }
 
     #[link(name = "linenspruce", kind = "static")]
@@ -133,6 +137,7 @@ mod c {
             active: *mut u64,
             active_length: usize,
             last: u64,
+            total: u64,
             text: *const u8,
             text_length: usize,
             number: u64,
@@ -145,6 +150,7 @@ mod c {
             active: *mut u64,
             active_length: usize,
             last: u64,
+            total: u64,
             text: *const u8,
             text_length: usize,
             number: u64,
@@ -175,7 +181,7 @@ impl c::Lent {
             43 => Answer::Full,
             other => unreachable!("a message is answered {other}"),
         };
-        Lent { answer, last: self.last }
+        Lent { answer, last: self.last, total: self.total }
     }
 }
 
@@ -210,13 +216,14 @@ pub fn write(room: &mut [u8], fields: Fields) -> Reply {
     unsafe { c::linenspruce_write(room.as_mut_ptr(), room.len(), fields) }
 }
 
-/// Activates a code in an account that is lent as three slices and its last number. Slices of another
-/// length than 256 are answered too: 40.
+/// Activates a code in an account that is lent as three slices, its last number and its total. Slices of
+/// another length than 256 are answered too: 40.
 pub fn activate(
     high: &mut [u64],
     low: &mut [u64],
     active: &mut [u64],
     last: u64,
+    total: u64,
     text: &[u8],
     number: u64,
 ) -> Lent {
@@ -229,6 +236,7 @@ pub fn activate(
             active.as_mut_ptr(),
             active.len(),
             last,
+            total,
             text.as_ptr(),
             text.len(),
             number,
@@ -243,6 +251,7 @@ pub fn cancel(
     low: &mut [u64],
     active: &mut [u64],
     last: u64,
+    total: u64,
     text: &[u8],
     number: u64,
 ) -> Lent {
@@ -255,6 +264,7 @@ pub fn cancel(
             active.as_mut_ptr(),
             active.len(),
             last,
+            total,
             text.as_ptr(),
             text.len(),
             number,
@@ -265,19 +275,25 @@ pub fn cancel(
 
 impl Account {
     pub const EMPTY: Account =
-        Account { high: [0; PLACES], low: [0; PLACES], active: [0; PLACES], last: 0 };
+        Account { high: [0; PLACES], low: [0; PLACES], active: [0; PLACES], last: 0, total: 0 };
 
     /// Activates a code.
     pub fn activate(&mut self, text: &[u8], number: u64) -> Answer {
-        let lent = activate(&mut self.high, &mut self.low, &mut self.active, self.last, text, number);
-        self.last = lent.last;
-        lent.answer
+        let Account { high, low, active, last, total } = self;
+        let lent = activate(high, low, active, *last, *total, text, number);
+        self.keep(lent)
     }
 
     /// Cancels a code.
     pub fn cancel(&mut self, text: &[u8], number: u64) -> Answer {
-        let lent = cancel(&mut self.high, &mut self.low, &mut self.active, self.last, text, number);
+        let Account { high, low, active, last, total } = self;
+        let lent = cancel(high, low, active, *last, *total, text, number);
+        self.keep(lent)
+    }
+
+    fn keep(&mut self, lent: Lent) -> Answer {
         self.last = lent.last;
+        self.total = lent.total;
         lent.answer
     }
 

@@ -42,8 +42,11 @@ static void *read_and_write(void *said) {
 
 static uint64_t high[PLACES], low[PLACES], active[PLACES];
 
+/* The messages are numbered from 1, and each but the last adds a code: what is before one is both the last
+ * number and the total. */
 static struct linenspruce_lent activate(const uint8_t *code, uint64_t number) {
-    return linenspruce_activate(high, PLACES, low, PLACES, active, PLACES, number - 1, code, 20, number);
+    uint64_t before = number - 1;
+    return linenspruce_activate(high, PLACES, low, PLACES, active, PLACES, before, before, code, 20, number);
 }
 
 /* The code of a unit number. */

@@ -1,4 +1,4 @@
-/* Calls with an error in their types. With WRONG 0 this file compiles; with 1 to 14 the header has the
+/* Calls with an error in their types. With WRONG 0 this file compiles; with 1 to 16 the header has the
  * compiler refuse it, under -Wall -Werror. */
 #include "linenspruce.h"
 
@@ -22,8 +22,8 @@ void wrong(void) {
     reply = linenspruce_code_plain(room, 20, numbers, 8, linenspruce_other, 0);
     reading = linenspruce_read(text, 20);
     reply = linenspruce_write(room, 20, fields);
-    lent = linenspruce_activate(high, 256, low, 256, active, 256, 0, text, 20, 1);
-    lent = linenspruce_cancel(high, 256, low, 256, active, 256, lent.last, text, 20, 2);
+    lent = linenspruce_activate(high, 256, low, 256, active, 256, 0, 0, text, 20, 1);
+    lent = linenspruce_cancel(high, 256, low, 256, active, 256, lent.last, lent.total, text, 20, 2);
 #if WRONG == 1 /* a letter for a kind */
     reply = linenspruce_code_quick(room, 20, numbers, 8, 'B', 1);
 #elif WRONG == 2 /* kind and unit number in each other's place */
@@ -43,14 +43,18 @@ void wrong(void) {
 #elif WRONG == 9 /* the fields by their address */
     reply = linenspruce_write(room, 20, &fields);
 #elif WRONG == 10 /* an account's numbers of another width */
-    lent = linenspruce_activate(high, 256, low, 256, narrow, 256, 0, text, 20, 1);
+    lent = linenspruce_activate(high, 256, low, 256, narrow, 256, 0, 0, text, 20, 1);
 #elif WRONG == 11 /* an account that may not be written */
-    lent = linenspruce_activate(kept, 256, low, 256, active, 256, 0, text, 20, 1);
-#elif WRONG == 12 /* message and last number in each other's place */
-    lent = linenspruce_cancel(high, 256, low, 256, active, 256, text, 20, 1, 0);
-#elif WRONG == 13 /* no last number */
+    lent = linenspruce_activate(kept, 256, low, 256, active, 256, 0, 0, text, 20, 1);
+#elif WRONG == 12 /* the message before last number and total */
+    lent = linenspruce_cancel(high, 256, low, 256, active, 256, text, 20, 1, 0, 0);
+#elif WRONG == 13 /* neither last number nor total */
     lent = linenspruce_cancel(high, 256, low, 256, active, 256, text, 20, 1);
 #elif WRONG == 14 /* an answer taken for a reply */
-    reply = linenspruce_cancel(high, 256, low, 256, active, 256, 0, text, 20, 1);
+    reply = linenspruce_cancel(high, 256, low, 256, active, 256, 0, 0, text, 20, 1);
+#elif WRONG == 15 /* no total */
+    lent = linenspruce_activate(high, 256, low, 256, active, 256, 0, text, 20, 1);
+#elif WRONG == 16 /* the total by its address */
+    lent = linenspruce_cancel(high, 256, low, 256, active, 256, lent.last, &lent.total, text, 20, 1);
 #endif
 }

@@ -1,6 +1,6 @@
-"""Calls that are wrong in their types, those that only C's types let through, and very long ones. Each of
-the first is a TypeError or a ValueError, and the room or the account stays as it was; the others have
-their defined replies and answers."""
+"""Calls that are wrong in their types, those that only C's types let through, accounts with another total,
+and very long ones. Each of the first is a TypeError or a ValueError, and the room or the account stays as
+it was; the others have their defined replies and answers."""
 from array import array
 
 import linenspruce
@@ -64,7 +64,7 @@ def wrong_writing():
 def wrong_messages(message):
     account = Account()
     account.activate(CASE_1, 1)
-    good = [account.high, account.low, account.active, 1, CASE_1, 2]
+    good = [account.high, account.low, account.active, 1, 1, CASE_1, 2]
     before = [bytes(places) for places in good[:3]]
 
     def refuses_at(error, place, value):
@@ -77,15 +77,16 @@ def wrong_messages(message):
         # One array twice.
         refuses_at(ValueError, place, good[(place + 1) % 3])
     for value, error in NO_LONG:
-        refuses_at(error, 3, value)
-        refuses_at(error, 5, value)
+        for place in (3, 4, 6):
+            refuses_at(error, place, value)
     for text in NO_TEXT:
-        refuses_at(TypeError, 4, text)
+        refuses_at(TypeError, 5, text)
     for places in NO_NUMBERS:
         refuses(TypeError, None, Account, places)
     for value, error in NO_LONG:
         refuses(error, None, Account, [0] * 255 + [value])
         refuses(error, None, Account, [0], [0], [0], value)
+        refuses(error, None, Account, [0], [0], [0], 0, value)
 
 
 def every_letter(library):
@@ -108,17 +109,42 @@ def other_lengths(message, sent):
             lengths = [PLACES] * 3
             lengths[place] = length
             lent = [array("Q", [7] * length) for length in lengths]
-            assert message(*lent, (1 << 64) - 1, CASE_1, 1) == Lent(Answer.ACCOUNT, (1 << 64) - 1)
+            kept = (1 << 64) - 1, (1 << 64) - 2
+            assert message(*lent, *kept, CASE_1, 1) == Lent(Answer.ACCOUNT, *kept)
             assert all(set(places) <= {7} for places in lent)
             tried += 1
         for length in (1 << 32, (1 << 32) + PLACES, 1 << 61, (1 << 61) + PLACES, (1 << 64) - PLACES, (1 << 64) - 1):
             lent = [array("Q", [0] * PLACES) for _ in range(3)]
             words = [word for places in lent for word in (linenspruce._places(places), PLACES)]
             words[2 * place + 1] = length
-            told = sent(*words, 5, CASE_1, 20, 6)
-            assert (told.answer, told.last) == (40, 5)
+            told = sent(*words, 5, 0, CASE_1, 20, 6)
+            assert (told.answer, told.last, told.total) == (40, 5, 0)
             assert not any(map(any, lent))
             tried += 1
+
+
+def other_totals(message):
+    """Accounts of no, one and 256 active codes with every near total but their own, and such as are their own
+    in the lowest bits: 40, and all is as it was."""
+    global tried
+    for count in (0, 1, PLACES):
+        account = Account()
+        for number in range(1, count + 1):
+            assert account.activate(numbered(number), number) == Answer.ACTIVATED
+        assert account.total == count
+        lent = [account.high, account.low, account.active]
+        before = [bytes(places) for places in lent]
+        for total in {*range(PLACES + 2), *(count + (1 << bit) for bit in range(64))} - {count}:
+            assert message(*lent, count, total, CASE_1, 1000) == Lent(Answer.ACCOUNT, count, total)
+            assert [bytes(places) for places in lent] == before
+            tried += 1
+
+
+def numbered(number):
+    """The code of a building on the ground of case 1."""
+    room = bytearray(20)
+    assert write(room, GOOD._replace(number=number)) == Reply(0, 0)
+    return room
 
 
 def no_pointer(library):
@@ -132,8 +158,8 @@ def no_pointer(library):
     assert library.linenspruce_write(None, 0, linenspruce._Fields(*GOOD)).number == 21
     lent = [word for _ in range(3) for word in ((linenspruce.ctypes.c_uint64 * PLACES)(), PLACES)]
     for message in (library.linenspruce_activate, library.linenspruce_cancel):
-        assert message(None, 0, None, 0, None, 0, 7, None, 0, 8).answer == 40
-        assert message(*lent, 7, None, 0, 8).answer == 42
+        assert message(None, 0, None, 0, None, 0, 7, 0, None, 0, 8).answer == 40
+        assert message(*lent, 7, 0, None, 0, 8).answer == 42
     tried += 10
 
 
@@ -168,6 +194,8 @@ assert code_quick(right, tuple(SQUARE), Kind.BUILDING, 1) == Reply(0, 0) and rig
 every_letter(linenspruce.load())
 other_lengths(activate, linenspruce.load().linenspruce_activate)
 other_lengths(cancel, linenspruce.load().linenspruce_cancel)
+other_totals(activate)
+other_totals(cancel)
 assert Account().activate(b"0" * LONG, 1) == Account().cancel(bytearray(LONG), 1) == Answer.CODE
 assert [str(answer) for answer in Answer][2:6] == ["cancelled", "not active", "old", "refused 40"]
 no_pointer(linenspruce.load())
