@@ -121,6 +121,14 @@ abbrev pub decide : List Row → Done → Done
 decide [] other = other
 decide (r ∷ rows) other = cond (r .applies) (r .then) (decide rows other)
 
+-- The total with one place more active: an account of 256 places has no more, so that a total of 256 stays
+abbrev pub raised : ℕ → ℕ
+raised total = cond (ltb total places) (suc total) total
+
+-- and with one less, where 0 stays
+abbrev pub lowered : ℕ → ℕ
+lowered total = total - 1
+
 -- The account with a number used up, and nothing else changed
 abbrev pub used : ℕ → Account → Account
 used number account = accountOf (account .high) (account .low) (account .active) number (account .total)
@@ -129,14 +137,6 @@ used number account = accountOf (account .high) (account .low) (account .active)
 abbrev pub putAt : Account → ℕ → Halves → ℕ → ℕ → ℕ → Account
 putAt account place code active number total =
     accountOf (set (account .high) place (code .high)) (set (account .low) place (code .low)) (set (account .active) place active) number total
-
--- The total with one place more active: an account of 256 places has no more, so that a total of 256 stays
-abbrev pub raised : ℕ → ℕ
-raised total = cond (ltb total places) (suc total) total
-
--- and with one less, where 0 stays
-abbrev pub lowered : ℕ → ℕ
-lowered total = total - 1
 
 -- "An activation takes the lowest free place"
 abbrev pub taken : ℕ → Account → Halves → Account
