@@ -121,7 +121,7 @@ abbrev pub decide : List Row → Done → Done
 decide [] other = other
 decide (r ∷ rows) other = cond (r .applies) (r .then) (decide rows other)
 
--- The total with one place more active: an account of 256 places has no more, so that a total of 256 stays
+-- The total with one place more active: an account has 256 places, so that a total of 256 or more stays
 abbrev pub raised : ℕ → ℕ
 raised total = cond (ltb total places) (suc total) total
 
