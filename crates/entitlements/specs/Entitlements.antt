@@ -8,13 +8,15 @@ use lib.ListN.{replicate, set}
 use Rattle.facts.specs.Texts.{bytes}
 use Rattle.halves.specs.declared.Halves.{Halves}
 use Rattle.halves.specs.Halves.{halvesBy, halvesIn, readable, isCode}
-use Rattle.places.specs.Places.{places, isFree, codeOn, holds, lowestPlace, countActive}
+use Rattle.places.specs.Places.{places, isFree, activeOn, codeOn, holds, lowestPlace, countActive}
 use Rattle.entitlements.specs.declared.Account.{Account}
 use Rattle.entitlements.specs.declared.Kind.{Kind}
 use Rattle.entitlements.specs.declared.Kind.the-variants.{Activate, Cancel}
 use Rattle.entitlements.specs.declared.Answer.{Answer}
 use Rattle.entitlements.specs.declared.Answer.the-variants as answer
 use Rattle.entitlements.specs.declared.Answered.{Answered}
+
+-- ---- What an account keeps
 
 -- An account by its arrays, its last number and, "Keep the total in the account", its total
 abbrev pub accountOf : List ℕ → List ℕ → List ℕ → ℕ → ℕ → Account
@@ -30,9 +32,9 @@ empty = accountOf (replicate places 0) (replicate places 0) (replicate places 0)
 abbrev pub codeAt : Account → ℕ → Halves
 codeAt account i = codeOn (account .high) (account .low) i
 
--- Whether a place is active: 0 is free, any other number active
+-- Whether a place is active
 abbrev pub activeAt : Account → ℕ → Bool
-activeAt account i = not (isFree (account .active) i)
+activeAt account i = activeOn (account .active) i
 
 -- The place of an active code, 256 where the code is not active
 abbrev pub placeOf : Account → Halves → ℕ

@@ -1,5 +1,5 @@
-// An account lent as three arrays, its last number and its total, for callers who cannot hand one over by value.
-// Arrays of another length than 256 are no account: 40.
+// An account lent as three arrays, its last number and its total, for callers who cannot hand one over by
+// value. Arrays of another length than 256 are no account: 40.
 ghost use mathlib.Core.Path.{_≡_};
 ghost use lib.ListN.{length};
 ghost use Rattle.places.specs.Places.{places};

@@ -16,6 +16,10 @@ places = 256
 abbrev pub isFree : List ℕ → ℕ → Bool
 isFree active i = eqb (getD active i 0) 0
 
+-- any other number active
+abbrev pub activeOn : List ℕ → ℕ → Bool
+activeOn active i = not (isFree active i)
+
 -- What a place holds: a code by its halves
 abbrev pub codeOn : List ℕ → List ℕ → ℕ → Halves
 codeOn high low i = halvesBy (getD high i 0) (getD low i 0)
@@ -26,7 +30,7 @@ hasLow low half i = eqb (getD low i 0) half
 
 -- Whether a code is active at a place
 abbrev pub holds : List ℕ → List ℕ → List ℕ → Halves → ℕ → Bool
-holds high low active code i = not (isFree active i) && sameCode (codeOn high low i) code
+holds high low active code i = activeOn active i && sameCode (codeOn high low i) code
 
 -- The lowest of n numbers from one on that passes a test, and the number after them where none does
 abbrev pub lowestFrom : ℕ → ℕ → (ℕ → Bool) → ℕ
@@ -44,4 +48,4 @@ countBelow test (suc n) = cond (test n) (suc (countBelow test n)) (countBelow te
 
 -- "the full count": how many of the 256 places are active
 unfoldable pub countActive : List ℕ → ℕ
-countActive active = countBelow (λ i. not (isFree active i)) places
+countActive active = countBelow (activeOn active) places

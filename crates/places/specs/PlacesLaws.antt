@@ -14,7 +14,7 @@ use lib.Seq.{getD-set-same, getD-set-other}
 use Rattle.facts.specs.Numbers.{either-way, not-above}
 use Rattle.facts.specs.Tests.{fails-right}
 use Rattle.halves.specs.declared.Halves.{Halves}
-use Rattle.places.specs.Places.{places, isFree, hasLow, holds, lowestFrom, lowestPlace, countBelow, countActive}
+use Rattle.places.specs.Places.{places, isFree, activeOn, hasLow, holds, lowestFrom, lowestPlace, countBelow, countActive}
 
 -- A number is the lowest of n from one on that passes a test
 record Lowest (test : ℕ → Bool) (from n i : ℕ) : Type 0 where
@@ -113,7 +113,7 @@ none-below test other so = record { within = lowest-most test; none = λ k h. so
 -- A code is active nowhere that has another low half
 other-low : (high low active : List ℕ) (code : Halves) (k : ℕ) → hasLow low (code .low) k ≡ false → holds high low active code k ≡ false
 other-low high low active code k e =
-    fails-right (not (isFree active k)) (fails-right (eqb (getD high k 0) (code .high)) e)
+    fails-right (activeOn active k) (fails-right (eqb (getD high k 0) (code .high)) e)
 
 -- so it is active at no place below the lowest that has its own
 pub code-below : (high low active : List ℕ) (code : Halves) {first : ℕ} → first ≡ lowestPlace (hasLow low (code .low))
@@ -189,25 +189,21 @@ module _ (one other : ℕ → Bool) where
 
 -- ---- how many places are active
 
--- Whether a place is active
-abbrev isOn : List ℕ → ℕ → Bool
-isOn active i = not (isFree active i)
-
 module _ (active : List ℕ) where
   -- None where all are free
   pub count-free : ((i : ℕ) → i < places → isFree active i ≡ true) → countActive active ≡ 0
   unfolding countActive
-  count-free free = count-none (isOn active) places (λ i h. ap not (free i h))
+  count-free free = count-none (activeOn active) places (λ i h. ap not (free i h))
 
   -- 256 where none is
   pub count-all : ((i : ℕ) → i < places → isFree active i ≡ false) → countActive active ≡ places
   unfolding countActive
-  count-all on = count-each (isOn active) places (λ i h. ap not (on i h))
+  count-all on = count-each (activeOn active) places (λ i h. ap not (on i h))
 
   -- and less where one is
   pub count-below : (i : ℕ) → i < places → isFree active i ≡ true → countActive active < places
   unfolding countActive
-  count-below i h free = count-less (isOn active) i places h (ap not free)
+  count-below i h free = count-less (activeOn active) i places h (ap not free)
 
   module _ (sized : length active ≡ places) (i : ℕ) (h : i < places) where
     -- What another activity of a place changes
@@ -221,21 +217,21 @@ module _ (active : List ℕ) where
     pub count-taken : (a : ℕ) → isFree active i ≡ true → eqb a 0 ≡ false → countActive (set active i a) ≡ suc (countActive active)
     unfolding countActive
     count-taken a free on =
-        count-but (isOn active) (isOn (set active i a)) i places h (ap not free) (ap not (set-here a ∙ on)) (λ k n. ap not (set-other a k n))
+        count-but (activeOn active) (activeOn (set active i a)) i places h (ap not free) (ap not (set-here a ∙ on)) (λ k n. ap not (set-other a k n))
 
     -- and one less where an active place becomes free
     pub count-cleared : isFree active i ≡ false → suc (countActive (set active i 0)) ≡ countActive active
     unfolding countActive
     count-cleared on =
         sym
-        (count-but (isOn (set active i 0)) (isOn active) i places h (ap not (set-here 0)) (ap not on)
+        (count-but (activeOn (set active i 0)) (activeOn active) i places h (ap not (set-here 0)) (ap not on)
         (λ k n. ap not (sym (set-other 0 k n))))
 
 -- A loop that has counted the places below i
 pub record Counted (active : List ℕ) (i count : ℕ) : Type 0 where
   pub within : i ≤ places
   pub most : count ≤ i
-  pub sum : count ≡ countBelow (isOn active) i
+  pub sum : count ≡ countBelow (activeOn active) i
 
 pub counted-begin : {active : List ℕ} → Counted active 0 0
 unfolding countBelow
@@ -243,11 +239,11 @@ counted-begin = record { within = omega arith; most = omega arith; sum = refl }
 
 module _ {active : List ℕ} {i count : ℕ} (p : Counted active i count) where
   -- A place more, by whether it is free
-  counted-next : i < places → {next : ℕ} → next ≡ countBelow (isOn active) (suc i) → Counted active (i + 1) next
+  counted-next : i < places → {next : ℕ} → next ≡ countBelow (activeOn active) (suc i) → Counted active (i + 1) next
   counted-next h {next} e = record {
     within = omega arith;
-    most = omega (arith, e, count-most (isOn active) (suc i));
-    sum = e ∙ ap (countBelow (isOn active)) (sym (add-one i));
+    most = omega (arith, e, count-most (activeOn active) (suc i));
+    sum = e ∙ ap (countBelow (activeOn active)) (sym (add-one i));
   }
 
   pub counted-active : i < places → isFree active i ≡ false → Counted active (i + 1) (count + 1)
@@ -261,4 +257,4 @@ module _ {active : List ℕ} {i count : ℕ} (p : Counted active i count) where
   -- It ends with all of them
   pub counted-end : places ≤ i → count ≡ countActive active
   unfolding countActive
-  counted-end h = p .sum ∙ ap (countBelow (isOn active)) (omega (arith, h, p .within))
+  counted-end h = p .sum ∙ ap (countBelow (activeOn active)) (omega (arith, h, p .within))
