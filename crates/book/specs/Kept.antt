@@ -129,19 +129,20 @@ module _ (w : ℕ) (rest : List ℕ) (other : eqb (code "r") w ≡ false) (anoth
       ∙ sym parts
       ∙ ap (times words) (sym (sent-append (messageOn line) (messagesOf lines) account))
 
--- So after any lines the total is the number of the replies `activated` less that of the replies `cancelled`
-abbrev pub less : List (List ℕ) → ℕ
-less lines =
+-- the number of the replies `activated` to lines less that of the replies `cancelled`
+abbrev pub lessCancelled : List (List ℕ) → ℕ
+lessCancelled lines =
     repliesIn (bytes "activated") (saidFrom (posting message) empty lines) - repliesIn (bytes "cancelled") (saidFrom (posting message) empty lines)
 
-pub lines-number : (lines : List (List ℕ)) → stateFrom (posting message) empty lines .total ≡ less lines
+-- So after any lines the total is that
+pub lines-number : (lines : List (List ℕ)) → stateFrom (posting message) empty lines .total ≡ lessCancelled lines
 lines-number lines =
     lines-kept lines .number
     ∙ ap₂ _-_ (sym (lines-words (code "a") (bytes "ctivated") refl refl lines empty)) (sym (lines-words (code "c") (bytes "ancelled") refl refl lines empty))
 
 -- and so at the end of every input, however reads cut it
 pub whole-number : (room : List ℕ) (reads : List (List ℕ)) → longest < length room → 1 + length (together reads) < 2 ^ 64
-    → final (posting processing) (read (posting processing) (first room empty) (together reads)) .total ≡ less (linesOf (together reads))
+    → final (posting processing) (read (posting processing) (first room empty) (together reads)) .total ≡ lessCancelled (linesOf (together reads))
 whole-number room reads h few =
     ap (λ (account : Account). account .total) (whole-account room reads h few) ∙ lines-number (linesOf (together reads))
 
@@ -161,5 +162,5 @@ module _ (lines : List (List ℕ)) where
   asked-count = asked found ∙ ap totalSaid (lines-kept lines .total)
 
   -- and the replies `activated` until then less the replies `cancelled`
-  pub asked-number : posting message found (bytes "T") .reply ≡ totalSaid (less lines)
+  pub asked-number : posting message found (bytes "T") .reply ≡ totalSaid (lessCancelled lines)
   asked-number = asked found ∙ ap totalSaid (lines-number lines)
