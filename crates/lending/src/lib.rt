@@ -95,26 +95,19 @@ pub fn send_lent(
 ) -> Lent
     ensures { λ r. ⌜ lends r (now (high .exit)) (now (low .exit)) (now (active .exit)) ≡ lending kind (now (high .entry)) (now (low .entry)) (now (active .entry)) last total (now (text .entry)) number ⌝ }
 {
+    let none = Lent {
+        answer: 40,
+        last,
+        total,
+    };
     if high.len() != PLACES {
-        return Lent {
-            answer: 40,
-            last,
-            total,
-        };
+        return none;
     }
     if low.len() != PLACES {
-        return Lent {
-            answer: 40,
-            last,
-            total,
-        };
+        return none;
     }
     if active.len() != PLACES {
-        return Lent {
-            answer: 40,
-            last,
-            total,
-        };
+        return none;
     }
     let answered = message::send(kind, taken_in(high, low, active, last, total), text, number);
     let said = answered.answer;

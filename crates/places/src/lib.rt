@@ -1,5 +1,5 @@
-// The places of an account: 256 of activity, with the halves of a code each. Searched from place 0 up,
-// where none is found the answer is 256; and counted.
+// The places of an account: 256 of activity, with the halves of a code each. Searched from place 0 up;
+// where none is found the answer is 256. Counted, for the total.
 ghost use mathlib.Core.Path.{_≡_};
 ghost use mathlib.Core.Bool.{not, _&&_};
 ghost use lib.Dec.{eqb};
