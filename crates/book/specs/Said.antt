@@ -8,7 +8,7 @@ use lib.ListN.{length}
 use lib.Dec.{ltb, eqb}
 use Rattle.entitlements.specs.declared.Account.{Account}
 use Rattle.entitlements.specs.declared.Kind.{Kind}
-use Rattle.entitlements.specs.Entitlements.{Answering, Done, processing}
+use Rattle.entitlements.specs.Entitlements.{totalOf, Answering, Done, processing}
 use Rattle.change.specs.declared.Step.{Step}
 use Rattle.change.specs.Change.{stepped}
 use Rattle.facts.specs.Texts.{bytes}
@@ -23,7 +23,7 @@ use Rattle.book.specs.declared.Line.{Line}
 abbrev pub replyOf : Answering → Reply
 replyOf answer = cond (eqb (answer .number) 0) (coded (answer .words)) (refused (answer .number) 0)
 
--- "`total` and the number after it": the kept total, whatever the account
+-- "`total` and the number after it"
 abbrev pub totalSaid : ℕ → Reply
 totalSaid total = coded (bytes "total " ++ decimal total)
 
@@ -42,7 +42,7 @@ posted done = answered (replyOf (done .answer)) (done .account)
 -- the answer to a form: the total where it is asked for, and 9 for a line that is none, both of which leave the account as it was
 abbrev pub formPosted : Doing → Account → Message → Served Account
 formPosted doing account (message letter number text) = posted (doing (kindOf letter) account text number)
-formPosted doing account asksTotal = answered (totalSaid (account .total)) account
+formPosted doing account asksTotal = answered (totalSaid (totalOf account)) account
 formPosted doing account notOfThisForm = answered (refused 9 0) account
 
 -- the answer to a line: 10 for one of too many bytes, which leaves the account as it was too

@@ -26,6 +26,10 @@ accountOf high low active last total = record { high = high; low = low; active =
 abbrev pub empty : Account
 empty = accountOf (replicate places 0) (replicate places 0) (replicate places 0) 0 0
 
+-- "Asking answers the kept total"
+abbrev pub totalOf : Account → ℕ
+totalOf account = account .total
+
 -- ---- What is active
 
 -- What a place holds: a code by its halves

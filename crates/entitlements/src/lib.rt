@@ -1,7 +1,7 @@
 // The account of entitlements: what it keeps, the messages that it takes and what it answers. The
 // definitions are in specs/Entitlements.antt; `change` and `message` do the work.
 ghost use mathlib.Core.Path.{_≡_};
-ghost use Rattle.entitlements.specs.Entitlements.{empty as Entitlements·empty, says};
+ghost use Rattle.entitlements.specs.Entitlements.{empty as Entitlements·empty, totalOf, says};
 use places::PLACES;
 
 // The largest message number.
@@ -58,7 +58,7 @@ pub fn empty() -> Account
 
 // How many codes are active: the total that is kept, also in an account that messages would refuse.
 pub fn total(account: Account) -> u64
-    ensures { λ r. ⌜ r ≡ account .total ⌝ }
+    ensures { λ r. ⌜ r ≡ totalOf account ⌝ }
 {
     account.total
 }

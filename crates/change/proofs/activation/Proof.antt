@@ -1,9 +1,9 @@
 -- `change::activation` meets its contract, case by case. Assumes nothing.
 use Prim.Native.Nat.{ℕ, _<_, _≤_}
-use mathlib.Core.Path.{ap₂, sym, subst, _∙_}
+use mathlib.Core.Path.{_≡_, ap₂, sym, subst, _∙_}
 use Rattle.places.specs.Places.{places}
-use Rattle.entitlements.specs.declared.Answer.the-variants.{Activated}
-use Rattle.change.specs.Change.{puts}
+use Rattle.entitlements.specs.declared.Answer.the-variants.{Activated, Already}
+use Rattle.change.specs.Change.{keeps, puts}
 use Rattle.change.specs.ChangeLaws.{activating-already, activating-taken, activating-full}
 use borrow.Author.Needs.{needs}
 use Rattle.change.proofs.activation.Statement.{statement}
@@ -18,7 +18,8 @@ keep-requires c κs = search needs
 returns : tie.Need-returns
 returns c =
     let asked = c .before .before .before .args in
-    c .keep .ensures ∙ sym (activating-already (asked .active .now) (asked .place) (asked .code) (asked .number) (asked .total) (c .before .if1 .taken))
+    let already : c .keep .result ≡ keeps Already (asked .number) (asked .total) = c .keep .ensures in
+    already ∙ sym (activating-already (asked .active .now) (asked .place) (asked .code) (asked .number) (asked .total) (c .before .if1 .taken))
 
 free-place-requires : tie.Need-free-place-requires
 free-place-requires c κs = search needs

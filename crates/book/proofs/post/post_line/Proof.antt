@@ -7,10 +7,9 @@ use borrow.Rule.Slice.PartAt.{part-to-end}
 use Rattle.entitlements.specs.Entitlements.{accountOf, Done, processing}
 use Rattle.entry.specs.StatedLaws.{stated-message}
 use Rattle.change.specs.declared.Change.{Change}
-use Rattle.change.specs.declared.Step.{Step}
-use Rattle.change.specs.Change.{stepped, makes}
+use Rattle.change.specs.Change.{makes}
 use Rattle.change.specs.ChangeLaws.{change-processing}
-use Rattle.book.specs.SaidLaws.{posting-long, posting-bad, posting-total, posting-message}
+use Rattle.book.specs.SaidLaws.{posting-long, posting-bad, posting-total, posting-message, leaves}
 use borrow.Author.Needs.{needs}
 use Rattle.book.proofs.post.post_line.Statement.{statement}
 use Rattle.book.proofs.post.post_line.Tie as tie
@@ -27,7 +26,7 @@ returns c =
     let account = accountOf (asked .high .now) (asked .low .now) (asked .active .now) (asked .last) (asked .total) in
     let long = c .before .before .before .before .if1 .taken in
     let refused = c .before .before .refuse .ensures in
-    rw (posting-long processing account (asked .line .now) long) (ap (λ (s : Step). stepped s account) (refused .0), refused .1)
+    leaves (asked .number) account (asked .line .now) (posting-long processing account (asked .line .now) long) (refused .0) (refused .1)
 
 message-of-requires : tie.Need-message-of-requires
 message-of-requires c κs = search needs
@@ -90,8 +89,7 @@ returns-3 c =
     let account = accountOf (asked .high .now) (asked .low .now) (asked .active .now) (asked .last) (asked .total) in
     let total = sym (stated .message-of .ensures) ∙ c .before .before .before .before .enum-told .given .1 in
     let told = c .before .before .tell .ensures in
-    rw (posting-total processing account (asked .line .now) (stated .before .if1 .left) total)
-    (ap (λ (s : Step). stepped s account) (told .0), told .1)
+    leaves (asked .number) account (asked .line .now) (posting-total processing account (asked .line .now) (stated .before .if1 .left) total) (told .0) (told .1)
 
 enum-told-2 : tie.Need-enum-told-2
 enum-told-2 c = search needs
@@ -109,8 +107,7 @@ returns-4 c =
     let account = accountOf (asked .high .now) (asked .low .now) (asked .active .now) (asked .last) (asked .total) in
     let bad = sym (stated .message-of .ensures) ∙ c .before .before .before .before .enum-told2 .given .1 in
     let refused = c .before .before .refuse2 .ensures in
-    rw (posting-bad processing account (asked .line .now) (stated .before .if1 .left) bad)
-    (ap (λ (s : Step). stepped s account) (refused .0), refused .1)
+    leaves (asked .number) account (asked .line .now) (posting-bad processing account (asked .line .now) (stated .before .if1 .left) bad) (refused .0) (refused .1)
 
 pub post-line-spec : {M : Type 1} → statement M
 post-line-spec =
