@@ -1,5 +1,7 @@
 // Two angles of one direction: the lesser and the greater of them, how far apart they are, and what one
 // leaves of the other.
+#![tactic(auto)]
+
 ghost use Rattle.std.specs.Prelude.{◌≡◌, ◌-◌, min, max};
 ghost use Rattle.angles.specs.Angles.{distance};
 

@@ -5,6 +5,8 @@
 // a message changes one place of it. It is not tested as a whole, 40: from the empty one on that is
 // proved to be unnecessary, and the output of a whole run is what messages are answered, however the
 // reads cut the input: specs/Whole.antt.
+#![tactic(auto)]
+
 mod post;
 
 ghost use Rattle.std.specs.Prelude.{◌≡◌};

@@ -1,4 +1,6 @@
 // A cell's sides on the ground, cuts included.
+#![tactic(auto)]
+
 ghost use Rattle.std.specs.Prelude.{◌≡◌};
 ghost use Rattle.ground.specs.Cells.{low_side, high_side, is_side, sides_found};
 

@@ -2,6 +2,8 @@
 // place. Who runs through many messages keeps the account where it is and changes it there; no account is
 // copied. For an account that was checked: 41, 42, "old" and 43. The check on the whole account, 40, is in
 // `message`.
+#![tactic(auto)]
+
 ghost use Rattle.std.specs.Prelude.{◌≡◌};
 ghost use Rattle.entitlements.specs.Entitlements.{account_of, raised as Entitlements·raised, lowered as Entitlements·lowered};
 ghost use Rattle.change.specs.Change.{stays, stepped, keeps, activating, cancelling, acting_at, change_at, change_by, change_of};
@@ -13,7 +15,7 @@ use places::PLACES;
 // A step of an account: the last number and the total afterwards, and the place that is changed, with the
 // code and the activity that are put there. 256 is no place: nothing is put, and the code and the activity
 // are 0.
-#[derive(Drop)]
+#[derive(Clone, Copy)]
 pub struct Step {
     pub last: u64,
     pub total: u64,

@@ -1,4 +1,6 @@
 // Coding's checks before a cell is looked for, table by table, and what they leave to a road.
+#![tactic(auto)]
+
 ghost use Rattle.std.specs.Prelude.{◌/◌, ◌≤◌, ◌≡◌, ◌++◌, length};
 ghost use Rattle.replies.specs.Replies.{run};
 ghost use Rattle.corners.specs.Corners.{corners_of};

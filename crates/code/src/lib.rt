@@ -1,5 +1,7 @@
 // The twenty characters: the fields of a code, and what writing and reading answer. The
 // definitions of writing and reading are in specs/Code.antt; `writer` and `reader` do the work.
+#![tactic(auto)]
+
 ghost use Rattle.std.specs.Prelude.{◌≡◌};
 ghost use Rattle.code.specs.Code.{outside as Code·outside, says, tells};
 
@@ -8,7 +10,7 @@ use ground::{Point, Rectangle};
 // The fields of a code: its reference, scale, the four spans in the order E, W, S, N, and the
 // unit number. Laid out as in C, so that callers in other languages can have them.
 #[repr(C)]
-#[derive(Drop)]
+#[derive(Clone, Copy)]
 pub struct Fields {
     pub reference: Point,
     pub scale: u32,
@@ -23,7 +25,7 @@ pub struct Fields {
 pub const FINEST_SCALE: u32 = 27;
 
 // What writing answers: acceptance, or what is refused (21 to 25).
-#[derive(Drop)]
+#[derive(Clone, Copy)]
 pub enum Written {
     Accepted,
     Output,
@@ -34,7 +36,7 @@ pub enum Written {
 }
 
 // What reading answers: the fields and the rectangle, or what is refused (11 to 18).
-#[derive(Drop)]
+#[derive(Clone, Copy)]
 pub enum Reading {
     Accepted(Fields, Rectangle),
     Length,

@@ -1,4 +1,6 @@
 // The corners of a boundary, over the caller's numbers as they come: latitude, longitude in turn.
+#![tactic(auto)]
+
 ghost use Rattle.std.specs.Prelude.{◌≡◌, get_or};
 ghost use Rattle.corners.specs.Corners.{corner_at};
 

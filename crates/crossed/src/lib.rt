@@ -1,4 +1,6 @@
 // Crossed boundaries: the first pair of edges that meets. What that is stands in specs/Crossed.antt.
+#![tactic(auto)]
+
 mod leap;
 mod meeting;
 mod rows;

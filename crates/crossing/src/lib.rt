@@ -1,5 +1,7 @@
 // An edge beside a point: whether it crosses the point's latitude east of it, and whether it turns the count
 // between two points. Comparisons come first, products only where these leave it open.
+#![tactic(auto)]
+
 ghost use Rattle.std.specs.Prelude.{◌≡◌, cond, leb};
 ghost use Rattle.facts.specs.Tests.{differ};
 ghost use Rattle.side.specs.Side.{left as Side·left};

@@ -1,6 +1,8 @@
 // The demands of the mission as statements, and document 01's starred cases. Definitions and laws are
 // in specs/: demand 2 in Coded.antt, that long tails get a code (document 02, request 2) in Tails.antt,
 // demand 3 between the two roads in Ground.antt, the starred cases in Starred.antt.
+#![tactic(auto)]
+
 ghost use Rattle.std.specs.Prelude.{◌≡◌};
 ghost use Rattle.corners.specs.Corners.{corners_of};
 ghost use Rattle.boundary.specs.Changes.{SameGround};

@@ -1,4 +1,6 @@
 // An edge beside a rectangle. Comparisons come first, products only where these leave it open.
+#![tactic(auto)]
+
 ghost use Rattle.std.specs.Prelude.{◌≡◌, not, ◌&&◌, ◌||◌, leb};
 ghost use Rattle.ground.specs.Rectangles.{Ordered};
 ghost use Rattle.side.specs.Side.{left as Side·left};

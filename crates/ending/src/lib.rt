@@ -1,5 +1,7 @@
 // The end of coding around what a search hands in: the fields of a unit from its cell, and the
 // writing of its code.
+#![tactic(auto)]
+
 mod fields;
 mod scale;
 

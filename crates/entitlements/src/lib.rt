@@ -1,5 +1,7 @@
 // The account of entitlements: what it keeps, the messages that it takes and what it answers. The
 // definitions are in specs/Entitlements.antt; `change` and `message` do the work.
+#![tactic(auto)]
+
 ghost use Rattle.std.specs.Prelude.{◌≡◌};
 ghost use Rattle.entitlements.specs.Entitlements.{empty as Entitlements·empty, total_of, says};
 
@@ -11,7 +13,7 @@ pub const LARGEST: u64 = 1099511627775;
 // An account: for each place the two halves of a code and whether it is active (0 is free, any other
 // number active), the last number processed, and the total, which is how many are active. It goes into
 // each message and comes back.
-#[derive(Drop)]
+#[derive(Clone, Copy)]
 pub struct Account {
     pub high: [u64; PLACES],
     pub low: [u64; PLACES],

@@ -1,5 +1,7 @@
 // The message that a line states: `A` or `C`, a space, the message number, a space, and the code as the
 // rest of the line; or `T`, which asks for the total (docs/REGISTER.md, "Message lines").
+#![tactic(auto)]
+
 ghost use Rattle.std.specs.Prelude.{◌≡◌};
 ghost use Rattle.lines.specs.Messages.{is_asking};
 ghost use Rattle.entry.specs.Stated.{stated_of, stated_after};

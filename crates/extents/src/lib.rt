@@ -1,4 +1,6 @@
 // The extents of a unit, and its first corner above the range, over the caller's numbers.
+#![tactic(auto)]
+
 ghost use Rattle.std.specs.Prelude.{◌≡◌};
 ghost use Rattle.facts.specs.Places.{first_place};
 ghost use Rattle.corners.specs.Corners.{corners_of};

@@ -4,6 +4,8 @@
 // specs/: the replies in Replies.antt, their laws in Replying.antt, and in Once.antt that no second reply
 // would do. An account crosses as three lent arrays, its last number and its total, which a caller asks by
 // looking at it: for that they are in `lending`. A part of a page does not cross: the caller has the page.
+#![tactic(auto)]
+
 ghost use Rattle.std.specs.Prelude.{◌≡◌};
 ghost use Rattle.replies.specs.Replies.{refused as Replies·refused};
 ghost use Rattle.code.specs.Code.{reading, writing, tells as Code·tells, tells_nothing};

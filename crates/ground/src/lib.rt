@@ -1,4 +1,6 @@
 // The ground: angles in u (1/2048 arc second), points, rectangles, cells and their levels.
+#![tactic(auto)]
+
 mod cells;
 mod halves;
 mod rectangles;
@@ -40,17 +42,17 @@ pub const LOCATION_SIZE: u32 = 32;
 // A latitude in u, north of the equator. It, a longitude, a point and a rectangle are laid out as in C,
 // so that callers in other languages can have them.
 #[repr(C)]
-#[derive(Drop)]
+#[derive(Clone, Copy)]
 pub struct Lat(pub u32);
 
 // A longitude in u, east of the prime meridian.
 #[repr(C)]
-#[derive(Drop)]
+#[derive(Clone, Copy)]
 pub struct Lon(pub u32);
 
 // A point of the ground: a corner, a centre, a reference.
 #[repr(C)]
-#[derive(Drop)]
+#[derive(Clone, Copy)]
 pub struct Point {
     pub lat: Lat,
     pub lon: Lon,
@@ -58,7 +60,7 @@ pub struct Point {
 
 // A rectangle of ground by its four sides.
 #[repr(C)]
-#[derive(Drop)]
+#[derive(Clone, Copy)]
 pub struct Rectangle {
     pub west: Lon,
     pub east: Lon,
@@ -67,7 +69,7 @@ pub struct Rectangle {
 }
 
 // A cell by its level and its south-west corner.
-#[derive(Drop)]
+#[derive(Clone, Copy)]
 pub struct Cell {
     pub level: u32,
     pub west: Lon,

@@ -1,13 +1,15 @@
 // The two halves of a code, as an account keeps them: ten letters each, as a number in base 32, high
 // letter first. They are the two numbers of a code cut at another letter, so that no half is spelled to
 // be read.
+#![tactic(auto)]
+
 ghost use Rattle.std.specs.Prelude.{◌≡◌};
 ghost use Rattle.halves.specs.Halves.{accepted, is_code, code_of, code_in};
 
 use spelling::Spelled;
 
 // The halves of a code: its first ten letters, and its last ten.
-#[derive(Drop)]
+#[derive(Clone, Copy)]
 pub struct Halves {
     pub high: u64,
     pub low: u64,

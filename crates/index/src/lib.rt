@@ -1,6 +1,8 @@
 // An index of the codes that are active in an account, kept beside it by who sends many messages: a slot for
 // each hash of a code has the place that a code of this hash took last, or is crowded. A slot is a guess, which
 // is looked at before it is told: a wrong one costs time and never an answer.
+#![tactic(auto)]
+
 ghost use Rattle.std.specs.Prelude.{◌≡◌, not, ◌&&◌, eqb};
 ghost use Rattle.halves.specs.Halves.{halves_by};
 ghost use Rattle.index.specs.Index.{hash_of, looked_up, noted};

@@ -4,6 +4,8 @@
 // What is written is decided in `recording`; here bytes only come in and go out. What comes of a read is
 // written before the next read, the records and then what is told, each in one piece. A read or a write
 // that fails ends the program, which says so on standard error.
+#![tactic(auto)]
+
 ghost use Rattle.std.specs.Prelude.{◌*◌, ◌≤◌, ◌<◌, ◌≡◌, length};
 ghost use Rattle.page.specs.Page.{record_length};
 ghost use Rattle.lines.specs.Lines.{longest};

@@ -1,6 +1,8 @@
 // An account lent as three arrays, its last number and its total, for callers who cannot hand one over by
 // value: a message to it, and the replay of a page into it. Arrays of another length than 256 are no
 // account: 40.
+#![tactic(auto)]
+
 ghost use Rattle.std.specs.Prelude.{◌≡◌, length};
 ghost use Rattle.places.specs.Places.{places};
 ghost use Rattle.entitlements.specs.Entitlements.{account_of, says};

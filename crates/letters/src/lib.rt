@@ -1,4 +1,6 @@
 // The thirty-two letters: spelling a number in base 32, and reading one back.
+#![tactic(auto)]
+
 ghost use Rattle.std.specs.Prelude.{◌≡◌, ◌%◌, ◌^◌, length};
 ghost use Rattle.letters.specs.Alphabet.{value_in, first_other};
 ghost use Rattle.letters.specs.Letters.{letters, spelled_in, number_in};

@@ -3,6 +3,8 @@
 //
 // No function reads or writes anything but what it is lent, no public one has a `requires`, and each
 // contract is an equation to a definition of specs/.
+#![tactic(auto)]
+
 ghost use Rattle.std.specs.Prelude.{◌≡◌, length, set};
 ghost use Rattle.lines.specs.Automaton.{grown};
 ghost use Rattle.lines.specs.Starts.{starts_with};

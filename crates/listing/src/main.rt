@@ -4,6 +4,8 @@
 // What is written is decided in `register`; here bytes only come in and go out. The replies of a read
 // are written before the next read, in one piece. A read or a write that fails ends the program, which
 // says so on standard error.
+#![tactic(auto)]
+
 ghost use Rattle.std.specs.Prelude.{◌*◌, ◌≤◌, ◌<◌, ◌≡◌, length};
 ghost use Rattle.lines.specs.Lines.{longest};
 ghost use Rattle.lines.specs.Answers.{always};

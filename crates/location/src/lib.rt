@@ -1,5 +1,7 @@
 // The location of a code: the 27 bits of an angle, those of two angles paired, and the reference
 // that they tell.
+#![tactic(auto)]
+
 ghost use Rattle.std.specs.Prelude.{◌≡◌, ◌≤◌};
 ghost use Rattle.location.specs.Location.{direction_bits, bits_of, angle_in, paired, latters, location_of, lat_in, lon_in, reference_in};
 

@@ -1,5 +1,7 @@
 // The two messages to an account, activate and cancel. The account is handed in and handed back; it is
 // checked as a whole, 40, before it is touched.
+#![tactic(auto)]
+
 ghost use Rattle.std.specs.Prelude.{◌<◌, ◌≡◌};
 ghost use Rattle.places.specs.Places.{places};
 ghost use Rattle.entitlements.specs.declared.Kind.TheVariants.{Activate, Cancel};

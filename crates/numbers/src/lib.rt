@@ -1,5 +1,7 @@
 // The numbers of a line: document 01, "Numbers are decimal, 1 to 10 digits, at most 4,294,967,295, no
 // leading zero but in `0`." Message numbers are the same with 64 bits.
+#![tactic(auto)]
+
 mod word;
 
 ghost use Rattle.std.specs.Prelude.{◌≡◌, drop, set};

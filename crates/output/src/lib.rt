@@ -1,6 +1,8 @@
 // Replies of the listing put into an output: document 01, "line number from 1, a space, then the code or
 // `refused`, number and place, each after one space, and a line feed." Each function puts as much as
 // fits from a position on, and says the position after it.
+#![tactic(auto)]
+
 ghost use Rattle.room.specs.Room.{Put};
 ghost use Rattle.lines.specs.Lines.{decimal, coded, refused, saying, reply_line};
 

@@ -1,5 +1,7 @@
 // Two edges of a boundary: whether they share a point, and whether two of which one follows the other
 // share more than their corner. What that is stands in specs/Pair.antt.
+#![tactic(auto)]
+
 ghost use Rattle.std.specs.Prelude.{◌≡◌, ◌&&◌, ◌||◌, ltb};
 ghost use Rattle.side.specs.Side.{left as Side·left};
 ghost use Rattle.edge.specs.Edge.{edge};

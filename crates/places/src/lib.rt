@@ -1,5 +1,7 @@
 // The places of an account: 256 of activity, with the halves of a code each. Searched from place 0 up;
 // where none is found the answer is 256. Counted, for the total.
+#![tactic(auto)]
+
 ghost use Rattle.std.specs.Prelude.{◌≡◌, not, ◌&&◌, eqb};
 ghost use Rattle.places.specs.Places.{is_free, has_low, holds, lowest_place, count_active};
 

@@ -1,4 +1,6 @@
 // The plain road: coding a unit by trying the cells of each level in turn, coarsest level first.
+#![tactic(auto)]
+
 mod search;
 
 ghost use Rattle.std.specs.Prelude.{◌≡◌};

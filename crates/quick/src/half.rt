@@ -4,7 +4,7 @@ use ground::{Lon, Point, Rectangle};
 // The ground of a half. The edges that are kept for some ground around it stand in the room, from one
 // place to before another, and those before the place `first` miss the half. Of the ground around it the
 // east side is known, and whether the count is odd at a corner in it.
-#[derive(Drop)]
+#[derive(Clone, Copy)]
 pub struct Half {
     pub ground: Rectangle,
     pub corner: Point,
@@ -17,7 +17,7 @@ pub struct Half {
 
 // What is sought: cells of a level from one to another in the extents of a unit, which are nowhere
 // narrower than `least`.
-#[derive(Drop)]
+#[derive(Clone, Copy)]
 pub struct Sought {
     pub extents: Rectangle,
     pub coarsest: u32,

@@ -1,4 +1,6 @@
 // The quick road: coding a unit by going down a tree of halves, coarsest level first.
+#![tactic(auto)]
+
 mod half;
 mod halves;
 mod halving;

@@ -1,4 +1,6 @@
 // Reading a code: from a text to its two numbers, and from the numbers to fields and rectangle.
+#![tactic(auto)]
+
 ghost use Rattle.std.specs.Prelude.{◌≡◌, ◌||◌, ltb};
 ghost use Rattle.replies.specs.Replies.{run};
 ghost use Rattle.code.specs.Code.{past59, short_span, fields_in, span_checks, told_where, tells, reading_numbers, reading};

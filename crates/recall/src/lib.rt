@@ -1,6 +1,8 @@
 // Codes that were read before: for each slot a record whose code was read, with its halves, so that a later
 // code of the same twenty bytes is not read again. A slot is a guess, which is compared before it is used: a
 // wrong one costs time and never an answer, which is in specs/RecallLaws.antt.
+#![tactic(auto)]
+
 ghost use Rattle.std.specs.Prelude.{◌≡◌, ◌<◌, ◌≤◌, slice_index};
 ghost use Rattle.recall.specs.Recall.{slot_count, text_at, slot_of, earlier_at, recalled, remembered, after_of};
 

@@ -4,6 +4,8 @@
 // A line comes in byte by byte, into a room that goes from read to read. No account is kept: what is said
 // of a line goes by that line alone. What is put read by read is the page of the whole input, and what is
 // told of it, however the reads cut the input: specs/Whole.antt.
+#![tactic(auto)]
+
 mod write;
 
 ghost use Rattle.std.specs.Prelude.{◌≡◌, [], ◌∷◌};
@@ -13,7 +15,7 @@ ghost use Rattle.lines.specs.Automaton.{after, ended_by, last_by};
 ghost use Rattle.recording.specs.Recorded.{said, as_record, as_told, coming};
 
 // The line that comes in: its number, and how many of its bytes stand in the room.
-#[derive(Drop)]
+#[derive(Clone, Copy)]
 pub struct Line {
     pub number: u64,
     pub len: usize,

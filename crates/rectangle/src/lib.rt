@@ -1,4 +1,6 @@
 // Reading back: the rectangle of a code's fields, whatever they are.
+#![tactic(auto)]
+
 ghost use Rattle.std.specs.Prelude.{◌≡◌, ◌+◌, ◌-◌, ◌*◌, min};
 ghost use Rattle.ground.specs.Levels.{size_of};
 ghost use Rattle.code.specs.Code.{rectangle_of};

@@ -3,6 +3,8 @@
 //
 // A line comes in byte by byte, into a room that goes from read to read. The output of a whole run is
 // what the listing says of the whole input, however the reads cut it: specs/Whole.antt.
+#![tactic(auto)]
+
 mod reply;
 
 ghost use Rattle.std.specs.Prelude.{◌≡◌, ◌*◌, ◌≤◌, [], ◌∷◌, length};

@@ -4,6 +4,8 @@
 // What is written is decided in `replaying` and `summary`; here bytes only come in and go out. The page is
 // read straight to where it is replayed. One that is too long is refused whole. That is said on standard
 // error, and so is a read or a write that fails, and then nothing more is written.
+#![tactic(auto)]
+
 ghost use Rattle.std.specs.Prelude.{◌≤◌, ◌<◌, length};
 ghost use Rattle.output.specs.Written.{Starts};
 ghost use Rattle.replaying.specs.Replay.{replayed};

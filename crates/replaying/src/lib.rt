@@ -3,6 +3,8 @@
 //
 // The account stays where it is, and a record changes one place of it. It is not tested as a whole, 40: from
 // the empty one on that is proved to be unnecessary. An index beside it finds the place of a record's code.
+#![tactic(auto)]
+
 ghost use Rattle.std.specs.Prelude.{◌≡◌, []};
 ghost use Rattle.entitlements.specs.Entitlements.{account_of};
 ghost use Rattle.replaying.specs.Replay.{counts_of, replayed};

@@ -1,4 +1,6 @@
 // Room that a caller lends: a text put into it from a position on, as much as fits.
+#![tactic(auto)]
+
 ghost use Rattle.std.specs.Prelude.{◌-◌, min, ◌≡◌};
 ghost use Rattle.room.specs.Room.{Put};
 

@@ -1,4 +1,6 @@
 // The side of a line, told by the sign of a difference of two products. Nobody else multiplies.
+#![tactic(auto)]
+
 ghost use Rattle.std.specs.Prelude.{◌≡◌, ◌+◌, ◌*◌, ltb};
 ghost use Rattle.side.specs.Side.{left as Side·left};
 ghost use Rattle.side.specs.SideLaws.{plus, minus};

@@ -1,5 +1,7 @@
 // The twenty letters of a code as two numbers: the location, of 11 letters, and scale, spans and
 // unit number together, of 9. Read from a text, and spelled into a room.
+#![tactic(auto)]
+
 ghost use Rattle.std.specs.Prelude.{◌≡◌};
 ghost use Rattle.spelling.specs.Spelling.{numbers_in, spells, spelled_into};
 

@@ -1,5 +1,7 @@
 // The unit that a line of the listing states: document 01, "`B` or `F` (building, other), a space, the
 // number, then coordinates, each after one space."
+#![tactic(auto)]
+
 ghost use Rattle.std.specs.Prelude.{◌≡◌, true, [], ◌∷◌};
 ghost use Rattle.room.specs.Room.{put_at};
 ghost use Rattle.lines.specs.Lines.{is_kind, form};

@@ -1,6 +1,8 @@
 // The text of a replay put into an output, a line each: where it stopped, how often each answer came, the
 // last number, the total, and the code of each active place. The definitions are in specs/Summary.antt.
 // Each function puts as much as fits from a position on, and says the position after it.
+#![tactic(auto)]
+
 ghost use Rattle.room.specs.Room.{Put};
 ghost use Rattle.letters.specs.Letters.{letters, spelled_in};
 ghost use Rattle.summary.specs.Summary.{line_of, stop_line, count_lines, place_line, place_lines, summary_of};

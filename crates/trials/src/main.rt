@@ -16,6 +16,8 @@
 //     record KIND NUMBER OFFSET PAGE TEXT         answers a number, and the page afterwards
 //     look OFFSET PAGE                            answers 0, KIND, NUMBER and the code, `end` or a number
 //     replay PAGE                                 answers a number, the offset, six counts and the account
+#![tactic(auto)]
+
 mod accounts;
 mod codes;
 mod pages;

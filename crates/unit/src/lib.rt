@@ -1,6 +1,8 @@
 // A unit: what coding is, and its answers. The definitions are in specs/: extents in Extents.antt,
 // scale, spans, checks and coding in Unit.antt, the frame that both roads share around their search in
 // Frame.antt.
+#![tactic(auto)]
+
 ghost use Rattle.std.specs.Prelude.{◌≡◌};
 ghost use Rattle.unit.specs.Frame.{says};
 ghost use Rattle.unit.specs.Unit.{kind_of};
@@ -8,7 +10,7 @@ ghost use Rattle.unit.specs.Unit.{kind_of};
 use ground::Rectangle;
 
 // The kind of a unit.
-#[derive(Drop)]
+#[derive(Clone, Copy)]
 pub enum Kind {
     Building,
     Other,
@@ -25,7 +27,7 @@ pub fn kind_of(letter: u8) -> Kind
 }
 
 // What coding answers: acceptance, or what is refused (1 to 7, and 31 between 5 and 6).
-#[derive(Drop)]
+#[derive(Clone, Copy)]
 pub enum Coded {
     Accepted,
     Output,

@@ -1,4 +1,6 @@
 // Writing a code: from fields to its two numbers, which are then spelled.
+#![tactic(auto)]
+
 ghost use Rattle.std.specs.Prelude.{◌≡◌};
 ghost use Rattle.replies.specs.Replies.{run};
 ghost use Rattle.code.specs.Code.{no_reference, no_point, no_spans, field_checks, rest_of, says, leaves, writing};
