@@ -10,7 +10,7 @@ use ground::Point;
 pub(crate) const FEW: usize = 16;
 
 // The courses that an edge can take strictly.
-#[derive(Drop)]
+#[derive(Clone, Copy)]
 pub(crate) enum Course {
     North,
     South,

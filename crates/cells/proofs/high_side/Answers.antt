@@ -1,0 +1,34 @@
+-- `cells::high_side` meets its contract: the full size, or the cut where that comes first. Assumes nothing.
+use Prim.Native.Nat.{ℕ, ◌+◌, ◌*◌, ◌/◌, ◌%◌, min}
+use native.Mathlib.Nat.{div-add-mod'}
+use native.Mathlib.Omega.{arith}
+use mathlib.Core.Path.{◌≡◌, ap₂}
+use Rattle.ground.specs.Cells.{high_side}
+use Rattle.cells.proofs.high_side.Goals as goal
+
+side : (c : tie.After-size)
+    → min (c.before.before.args.a + c.size.result)
+    (c.before.before.args.a / c.before.afresh.result * c.before.afresh.result + c.before.afresh.result)
+    ≡ high_side c.before.before.args.level c.before.before.args.a
+unfolding high_side
+side c =
+    let a = c.before.before.args.a in
+    ap₂ (λ (s w : ℕ). min (a + s) (a / w * w + w)) c.size.ensures c.before.afresh.ensures.0
+
+pub overflow_mul-cut : goal.overflow_mul-cut
+overflow_mul-cut c =
+    omega (arith, (let whole_here : c.args.a / c.afresh-whole.result * c.afresh-whole.result + c.args.a % c.afresh-whole.result ≡ c.args.a = div-add-mod' c.args.a c.afresh-whole.result in whole_here))
+
+pub overflow_cast-cut : goal.overflow_cast-cut
+overflow_cast-cut c =
+    omega (arith, (let whole_here : c.args.a / c.afresh-whole.result * c.afresh-whole.result + c.args.a % c.afresh-whole.result ≡ c.args.a = div-add-mod' c.args.a c.afresh-whole.result in whole_here))
+
+pub overflow_add-cut : goal.overflow_add-cut
+overflow_add-cut c =
+    omega (arith, (let whole_here : c.args.a / c.afresh-whole.result * c.afresh-whole.result + c.args.a % c.afresh-whole.result ≡ c.args.a = div-add-mod' c.args.a c.afresh-whole.result in whole_here))
+
+pub returns-then-full-cut : goal.returns-then-full-cut
+returns-then-full-cut c = omega (arith, side c.before, c.if-full-cut.true)
+
+pub returns-else-full-cut : goal.returns-else-full-cut
+returns-else-full-cut c = omega (arith, side c.before, c.if-full-cut.false)
