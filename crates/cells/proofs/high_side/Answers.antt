@@ -6,15 +6,6 @@ use mathlib.Core.Path.{◌≡◌, ap₂}
 use Rattle.ground.specs.Cells.{high_side}
 use Rattle.cells.proofs.high_side.Goals as goal
 
-side : (c : tie.After-size)
-    → min (c.before.before.args.a + c.size.result)
-    (c.before.before.args.a / c.before.afresh.result * c.before.afresh.result + c.before.afresh.result)
-    ≡ high_side c.before.before.args.level c.before.before.args.a
-unfolding high_side
-side c =
-    let a = c.before.before.args.a in
-    ap₂ (λ (s w : ℕ). min (a + s) (a / w * w + w)) c.size.ensures c.before.afresh.ensures.0
-
 pub overflow_mul-cut : goal.overflow_mul-cut
 overflow_mul-cut c =
     omega (arith, (let whole_here : c.args.a / c.afresh-whole.result * c.afresh-whole.result + c.args.a % c.afresh-whole.result ≡ c.args.a = div-add-mod' c.args.a c.afresh-whole.result in whole_here))
@@ -28,7 +19,11 @@ overflow_add-cut c =
     omega (arith, (let whole_here : c.args.a / c.afresh-whole.result * c.afresh-whole.result + c.args.a % c.afresh-whole.result ≡ c.args.a = div-add-mod' c.args.a c.afresh-whole.result in whole_here))
 
 pub returns-then-full-cut : goal.returns-then-full-cut
-returns-then-full-cut c = omega (arith, side c.before, c.if-full-cut.true)
+unfolding high_side
+returns-then-full-cut c =
+    omega (arith, (let side_here : min (c.args.a + c.size.result) (c.args.a / c.afresh-whole.result * c.afresh-whole.result + c.afresh-whole.result) ≡ high_side c.args.level c.args.a = let a = c.args.a in ap₂ (λ (s w : ℕ). min (a + s) (a / w * w + w)) c.size.ensures c.afresh-whole.ensures.value in side_here), c.if-full-cut.true)
 
 pub returns-else-full-cut : goal.returns-else-full-cut
-returns-else-full-cut c = omega (arith, side c.before, c.if-full-cut.false)
+unfolding high_side
+returns-else-full-cut c =
+    omega (arith, (let side_here : min (c.args.a + c.size.result) (c.args.a / c.afresh-whole.result * c.afresh-whole.result + c.afresh-whole.result) ≡ high_side c.args.level c.args.a = let a = c.args.a in ap₂ (λ (s w : ℕ). min (a + s) (a / w * w + w)) c.size.ensures c.afresh-whole.ensures.value in side_here), c.if-full-cut.false)

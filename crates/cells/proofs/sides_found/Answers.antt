@@ -3,24 +3,11 @@
 use Prim.Native.Nat.{◌≤◌}
 use native.Mathlib.Omega.{arith}
 use mathlib.Core.Path.{◌≡◌, sym, ◌∙◌}
-use borrow.Author.Tests.{le-leb, lt-leb, not-true, not-false}
+use borrow.Author.Tests.{le-leb, lt-leb}
 use Rattle.ground.specs.Levels.{lat_end, lon_end, coarsest_level, finest_level}
 use Rattle.ground.specs.Cells.{high_side, sides_of, is_side, is_cell, sides_found}
 use Rattle.ground.specs.CellsLaws.{side_ends}
 use Rattle.cells.proofs.sides_found.Goals as goal
-
-so_far : (c : tie.Else3)
-    → let a = c.before.before.before.before.before.before.args.c in
-    is_cell a ≡ is_side a.level a.south.0 lat_end
-unfolding is_cell
-so_far c =
-    let c2 = c.before.before in
-    let level = c2.before.before.before.before.args.c.level in
-    rw (
-      le-leb coarsest_level level c2.before.if1.false,
-      le-leb level finest_level c2.if2.false,
-      sym c.before.is-side.ensures ∙ not-false _ c.if3.false,
-    )
 
 pub returns-then-level-lt-COARSEST : goal.returns-then-level-lt-COARSEST
 unfolding sides_found is_cell
@@ -36,26 +23,27 @@ pub returns-then-not-is_side : goal.returns-then-not-is_side
 unfolding sides_found is_cell
 returns-then-not-is_side c =
     let level = c.args.c.level in
-    rw (le-leb coarsest_level level c.if-level-lt-COARSEST.false, le-leb level finest_level c.if-level-gt-FINEST.false, sym c.is_side.ensures ∙ not-true _ c.if-not-is_side.true)
+    rw (le-leb coarsest_level level c.if-level-lt-COARSEST.false, le-leb level finest_level c.if-level-gt-FINEST.false, sym c.is_side.ensures ∙ c.if-not-is_side.true)
 
 pub returns-then-not-is_side-2 : goal.returns-then-not-is_side-2
-unfolding sides_found
-returns-then-not-is_side-2 c = rw (so_far c.before.before, sym c.is_side-2.ensures ∙ not-true _ c.if-not-is_side-2.true)
+unfolding sides_found is_cell
+returns-then-not-is_side-2 c =
+    rw ((let so_far_here : let a = c.args.c in is_cell a ≡ is_side a.level a.south.0 lat_end = let level = c.args.c.level in rw (le-leb coarsest_level level c.if-level-lt-COARSEST.false, le-leb level finest_level c.if-level-gt-FINEST.false, sym c.is_side.ensures ∙ c.if-not-is_side.false) in so_far_here), sym c.is_side-2.ensures ∙ c.if-not-is_side-2.true)
 
 pub overflow_cast-result : goal.overflow_cast-result
 overflow_cast-result c =
-    omega (arith, c.high_side.ensures, ((let ends_here : (high_side c.args.c.level c.args.c.west.0 ≤ lon_end) × (high_side c.args.c.level c.args.c.south.0 ≤ lat_end) = let a = c.args.c in (side_ends a.level a.west.0 lon_end (sym c.is_side.ensures ∙ not-false _ c.if-not-is_side.false), side_ends a.level a.south.0 lat_end (sym c.is_side-2.ensures ∙ not-false _ c.if-not-is_side-2.false)) in ends_here)).0)
+    omega (arith, c.high_side.ensures, ((let ends_here : (high_side c.args.c.level c.args.c.west.0 ≤ lon_end) × (high_side c.args.c.level c.args.c.south.0 ≤ lat_end) = let a = c.args.c in (side_ends a.level a.west.0 lon_end (sym c.is_side.ensures ∙ c.if-not-is_side.false), side_ends a.level a.south.0 lat_end (sym c.is_side-2.ensures ∙ c.if-not-is_side-2.false)) in ends_here)).0)
 
 pub overflow_cast-result-2 : goal.overflow_cast-result-2
 overflow_cast-result-2 c =
-    omega (arith, c.high_side-2.ensures, ((let ends_here : (high_side c.args.c.level c.args.c.west.0 ≤ lon_end) × (high_side c.args.c.level c.args.c.south.0 ≤ lat_end) = let a = c.args.c in (side_ends a.level a.west.0 lon_end (sym c.is_side.ensures ∙ not-false _ c.if-not-is_side.false), side_ends a.level a.south.0 lat_end (sym c.is_side-2.ensures ∙ not-false _ c.if-not-is_side-2.false)) in ends_here)).1)
+    omega (arith, c.high_side-2.ensures, ((let ends_here : (high_side c.args.c.level c.args.c.west.0 ≤ lon_end) × (high_side c.args.c.level c.args.c.south.0 ≤ lat_end) = let a = c.args.c in (side_ends a.level a.west.0 lon_end (sym c.is_side.ensures ∙ c.if-not-is_side.false), side_ends a.level a.south.0 lat_end (sym c.is_side-2.ensures ∙ c.if-not-is_side-2.false)) in ends_here)).1)
 
 pub returns : goal.returns
-unfolding sides_found sides_of
+unfolding sides_found sides_of is_cell
 returns c =
     rw (
-      so_far c.before.before.before.before,
-      sym c.is_side-2.ensures ∙ not-false _ c.if-not-is_side-2.false,
+      (let so_far_here : let a = c.args.c in is_cell a ≡ is_side a.level a.south.0 lat_end = let level = c.args.c.level in rw (le-leb coarsest_level level c.if-level-lt-COARSEST.false, le-leb level finest_level c.if-level-gt-FINEST.false, sym c.is_side.ensures ∙ c.if-not-is_side.false) in so_far_here),
+      sym c.is_side-2.ensures ∙ c.if-not-is_side-2.false,
       c.high_side.ensures,
       c.high_side-2.ensures,
     )

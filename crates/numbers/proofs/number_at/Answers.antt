@@ -7,19 +7,18 @@ use Rattle.numbers.proofs.number_at.Goals as goal
 pub overflow_cast-result : goal.overflow_cast-result
 overflow_cast-result c =
     let asked = c.args in
-    let got = c.found-1.given in
-    let is = sym c.within_at-found.ensures ∙ got.1 in
-    let small = (within_found 10 4294967295 asked.line.now asked.at got.0.0 got.0.1.0 is).small in
+    let is = sym c.within_at-found.ensures ∙ c.in-At.is in
+    let small = (within_found 10 4294967295 asked.line.now asked.at c.in-At.value c.in-At.end is).small in
     search rules
 
 pub returns-in-At : goal.returns-in-At
 returns-in-At c =
     let asked = c.args in
-    let is = sym c.within_at-found.ensures ∙ c.found-1.given.1 in
+    let is = sym c.within_at-found.ensures ∙ c.in-At.is in
     sym (number_short asked.line.now asked.at is)
 
 pub returns-in-Bad : goal.returns-in-Bad
 returns-in-Bad c =
     let asked = c.args in
-    let is = sym c.within_at-found.ensures ∙ c.enum_told-1.given.1 in
+    let is = sym c.within_at-found.ensures ∙ c.in-Bad.is in
     sym (number_short asked.line.now asked.at is)

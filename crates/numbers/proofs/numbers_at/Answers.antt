@@ -11,27 +11,30 @@ pub loop-i-init : goal.loop-i-init
 loop-i-init c = counting_begin c.args.line.now c.args.at c.args.room.now
 
 pub returns-then-line-i-ne32 : goal.returns-then-line-i-ne32
-returns-then-line-i-ne32 c = counting_other c.loop-i.invariant (search rules) c.if-line-i-ne32.true
+returns-then-line-i-ne32 c =
+    let whole = counting_other c.loop-i.invariant (search rules) c.if-line-i-ne32.true in
+    record { value = whole.0; room_after = whole.1 }
 
 pub returns-in_default : goal.returns-in_default
 returns-in_default c =
     let space = c.if-line-i-ne32.false in
-    let bad = sym c.number_at-number.ensures ∙ c.enum_told-1.given.1 in
-    counting_bad c.loop-i.invariant (search rules) space bad
+    let bad = sym c.number_at-number.ensures ∙ c.in_default.is in
+    let whole = counting_bad c.loop-i.invariant (search rules) space bad in
+    record { value = whole.0; room_after = whole.1 }
 
 pub loop-i-smaller : goal.loop-i-smaller
 loop-i-smaller c =
-    let seen = c.number-1.given.1 in
-    let at = sym c.number_at-number.ensures ∙ seen in
+    let at = sym c.number_at-number.ensures ∙ c.in-At.is in
     omega (arith, counting_further c.loop-i.invariant at)
 
 pub loop-i-preserved : goal.loop-i-preserved
 loop-i-preserved c =
-    let seen = c.number-1.given.1 in
-    let at = sym c.number_at-number.ensures ∙ seen in
+    let at = sym c.number_at-number.ensures ∙ c.in-At.is in
     let space = c.if-line-i-ne32.false in
     let so = c.loop-i.invariant in
     rw c.store.ensures (counting_more so (search rules) space at)
 
 pub returns : goal.returns
-returns c = counting_end c.loop-i.invariant (search rules)
+returns c =
+    let whole = counting_end c.loop-i.invariant (search rules) in
+    record { value = whole.0; room_after = whole.1 }

@@ -15,12 +15,12 @@ pub returns-in-Value : goal.returns-in-Value
 returns-in-Value c =
     let asked = c.args in
     let ended = c.word_end-end in
-    let is = sym c.word_value-word.ensures ∙ c.word-1.given.1 in
+    let is = sym c.word_value-word.ensures ∙ c.in-Value.is in
     sym (number_within asked.digits asked.most asked.line.now asked.at ended.result ended.ensures ∙ ap (ending_at ended.result) is)
 
 pub returns-in-Other : goal.returns-in-Other
 returns-in-Other c =
     let asked = c.args in
     let ended = c.word_end-end in
-    let is = sym c.word_value-word.ensures ∙ c.enum_told-1.given.1 in
+    let is = sym c.word_value-word.ensures ∙ c.in-Other.is in
     sym (number_within asked.digits asked.most asked.line.now asked.at ended.result ended.ensures ∙ ap (ending_at ended.result) is)

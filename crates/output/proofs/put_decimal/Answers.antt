@@ -8,7 +8,6 @@ use Rattle.output.proofs.put_decimal.Goals as goal
 pub returns : goal.returns
 returns c =
     let n = c.args.n in
-    let said = c.decimal-count.ensures in
     let count = c.decimal-count.result in
-    let text = said.1.1 ∙ spelled count n 20 (few_digits count n (omega arith) said.1.0) said.1.0 in
+    let text = c.decimal-count.ensures.digits ∙ spelled count n 20 (few_digits count n (omega arith) c.decimal-count.ensures.len) c.decimal-count.ensures.len in
     rw text at c.put.ensures
