@@ -16,7 +16,8 @@ ghost use Rattle.book.specs.Said.{posting, coming};
 
 use book::{Line, Listed};
 use entitlements::Account;
-use libc::{STDIN_FILENO, STDOUT_FILENO};
+use std::io;
+use std::io::{Read, Write};
 
 // The most bytes of one read.
 const READ: usize = 32768;
@@ -24,16 +25,16 @@ const READ: usize = 32768;
 // Room for a reply to each byte of a read, which may all be line feeds.
 const WRITTEN: usize = READ * lines::REPLY;
 
-fn main() {
+fn main(rt: HostRuntime) {
     let mut input = [0u8; READ];
     let mut room = [0u8; lines::ROOM];
     let mut output = [0u8; WRITTEN];
-    run(&mut input, &mut room, &mut output);
+    run(&rt, &mut input, &mut room, &mut output);
 }
 
 // Reads until the input ends. Nothing says that it does, so the reads count down, from a number that
 // no run uses up. The room is longer than a line may be, as the law of the whole output asks.
-fn run(input: &mut [u8], room: &mut [u8], output: &mut [u8])
+fn run(rt: &HostRuntime, input: &mut [u8], room: &mut [u8], output: &mut [u8])
     requires input_nonzero { 0 < length input.old }
     requires longest_in_bounds { longest < length room.old }
     requires reply_most_in_bounds { length input.old * reply_most ≤ length output.old }
@@ -42,19 +43,17 @@ fn run(input: &mut [u8], room: &mut [u8], output: &mut [u8])
     let mut account = entitlements::empty();
     let mut reads = u64::MAX;
     while reads > 0 {
-        let got = libc::read(STDIN_FILENO, input);
-        if got < 0 {
-            os::fail(b"account: standard input");
-            return;
-        }
-        let n = io::count(got, input);
+        let n = match rt.stdin().read(input) {
+            Ok(n) => n,
+            Err(e) => return say(rt, "standard input", e),
+        };
         if n == 0 {
             let put = reply_last(line, account, room, output);
-            write_out(output, put);
+            write_out(rt, output, put);
             return;
         }
         let listed = reply_all(line, account, &input[..n], room, output);
-        if !write_out(output, listed.put) {
+        if !write_out(rt, output, listed.put) {
             return;
         }
         line = listed.line;
@@ -87,12 +86,19 @@ fn reply_last(line: Line, account: Account, room: &[u8], output: &mut [u8]) -> u
 }
 
 // Writes the first bytes of the output, or says that it cannot.
-fn write_out(output: &[u8], count: usize) -> bool
+fn write_out(rt: &HostRuntime, output: &[u8], count: usize) -> bool
     requires { count ≤ length output.now }
 {
-    let sound = io::write_all(STDOUT_FILENO, &output[..count]);
-    if !sound {
-        os::fail(b"account: standard output");
+    match rt.stdout().write_all(&output[..count]) {
+        Ok(()) => true,
+        Err(e) => {
+            say(rt, "standard output", e);
+            false
+        }
     }
-    sound
+}
+
+// Says on standard error what failed. Where that cannot be written either, nothing is left to do.
+fn say(rt: &HostRuntime, what: &str, e: io::Error) {
+    let _ = eprintln!(rt; "account: {what}: {e}");
 }

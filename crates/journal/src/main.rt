@@ -15,8 +15,9 @@ ghost use Rattle.lines.specs.ReplyLaws.{reply_most};
 ghost use Rattle.output.specs.Written.{Starts};
 ghost use Rattle.recording.specs.Recorded.{said, as_record, as_told, coming};
 
-use libc::{STDERR_FILENO, STDIN_FILENO, STDOUT_FILENO};
 use recording::{Ends, Line, Recorded};
+use std::io;
+use std::io::{Read, Write};
 
 // The most bytes of one read.
 const READ: usize = 16384;
@@ -26,17 +27,17 @@ const WRITTEN: usize = READ * page::RECORD;
 
 const TOLD: usize = READ * lines::REPLY;
 
-fn main() {
+fn main(rt: HostRuntime) {
     let mut input = [0u8; READ];
     let mut room = [0u8; lines::ROOM];
     let mut output = [0u8; WRITTEN];
     let mut told = [0u8; TOLD];
-    run(&mut input, &mut room, &mut output, &mut told);
+    run(&rt, &mut input, &mut room, &mut output, &mut told);
 }
 
 // Reads until the input ends. Nothing says that it does, so the reads count down, from a number that
 // no run uses up. The room is longer than a line may be, as the law of the whole page asks.
-fn run(input: &mut [u8], room: &mut [u8], output: &mut [u8], told: &mut [u8])
+fn run(rt: &HostRuntime, input: &mut [u8], room: &mut [u8], output: &mut [u8], told: &mut [u8])
     requires input_nonzero { 0 < length input.old }
     requires longest_in_bounds { longest < length room.old }
     requires record_length_in_bounds { length input.old * record_length ≤ length output.old }
@@ -45,19 +46,17 @@ fn run(input: &mut [u8], room: &mut [u8], output: &mut [u8], told: &mut [u8])
     let mut line = Line { number: 1, len: 0 };
     let mut reads = u64::MAX;
     while reads > 0 {
-        let got = libc::read(STDIN_FILENO, input);
-        if got < 0 {
-            os::fail(b"journal: standard input");
-            return;
-        }
-        let n = io::count(got, input);
+        let n = match rt.stdin().read(input) {
+            Ok(n) => n,
+            Err(e) => return say(rt, "standard input", e),
+        };
         if n == 0 {
             let ends = record_last(line, room, output, told);
-            write_out(output, ends.put, told, ends.told);
+            write_out(rt, output, ends.put, told, ends.told);
             return;
         }
         let recorded = record_all(line, &input[..n], room, output, told);
-        if !write_out(output, recorded.put, told, recorded.told) {
+        if !write_out(rt, output, recorded.put, told, recorded.told) {
             return;
         }
         line = recorded.line;
@@ -94,13 +93,18 @@ fn record_last(line: Line, room: &[u8], output: &mut [u8], told: &mut [u8]) -> E
 }
 
 // Writes the first bytes of the output, or says that it cannot, and then the first of what is told.
-fn write_out(output: &[u8], count: usize, told: &[u8], tells: usize) -> bool
+fn write_out(rt: &HostRuntime, output: &[u8], count: usize, told: &[u8], tells: usize) -> bool
     requires count_in_bounds { count ≤ length output.now }
     requires tells_in_bounds { tells ≤ length told.now }
 {
-    if !io::write_all(STDOUT_FILENO, &output[..count]) {
-        os::fail(b"journal: standard output");
+    if let Err(e) = rt.stdout().write_all(&output[..count]) {
+        say(rt, "standard output", e);
         return false;
     }
-    io::write_all(STDERR_FILENO, &told[..tells])
+    rt.stderr().write_all(&told[..tells]).is_ok()
+}
+
+// Says on standard error what failed. Where that cannot be written either, nothing is left to do.
+fn say(rt: &HostRuntime, what: &str, e: io::Error) {
+    let _ = eprintln!(rt; "journal: {what}: {e}");
 }

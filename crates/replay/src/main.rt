@@ -12,7 +12,8 @@ ghost use Rattle.replaying.specs.Replay.{replayed};
 ghost use Rattle.summary.specs.Summary.{summary_of};
 ghost use Rattle.summary.specs.SummaryLaws.{summary_most};
 
-use libc::{STDERR_FILENO, STDIN_FILENO, STDOUT_FILENO};
+use std::io;
+use std::io::{Read, Write};
 
 // The most bytes of a page.
 const MOST: usize = 1048576;
@@ -28,48 +29,46 @@ struct Filled {
     sound: bool,
 }
 
-fn main() {
+fn main(rt: HostRuntime) {
     let mut page = [0u8; PAGE];
     let mut output = [0u8; summary::MOST];
-    run(&mut page, &mut output);
+    run(&rt, &mut page, &mut output);
 }
 
 // Reads a page, and writes the summary of its replay. There is room for more than a page may have, so that
 // none is cut.
-fn run(page: &mut [u8], output: &mut [u8])
+fn run(rt: &HostRuntime, page: &mut [u8], output: &mut [u8])
     requires in_bounds { 1048576 < length page.old }
     requires summary_most_in_bounds { summary_most ≤ length output.old }
 {
-    let filled = fill(page);
+    let filled = fill(rt, page);
     let len = filled.len;
     if !filled.sound {
         return;
     }
     if len > MOST {
-        io::write_all(
-            STDERR_FILENO,
-            b"replay: the page has more than 1048576 bytes\n",
-        );
+        let _ = eprintln!(rt; "replay: the page has more than 1048576 bytes");
         return;
     }
     let count = tell(&page[..len], output);
-    write_out(output, count);
+    write_out(rt, output, count);
 }
 
 // Reads until the input ends or the page is full. A read that brings nothing is the end, so that each
 // other fills some of the page.
-fn fill(page: &mut [u8]) -> Filled
+fn fill(rt: &HostRuntime, page: &mut [u8]) -> Filled
     ensures { result.len ≤ length page.new }
 {
     let mut len = 0;
     while len < page.len() {
         let rest = &mut page[len..];
-        let got = libc::read(STDIN_FILENO, rest);
-        if got < 0 {
-            os::fail(b"replay: standard input");
-            return Filled { len, sound: false };
-        }
-        let n = io::count(got, rest);
+        let n = match rt.stdin().read(rest) {
+            Ok(n) => n,
+            Err(e) => {
+                say(rt, "standard input", e);
+                return Filled { len, sound: false };
+            }
+        };
         if n == 0 {
             return Filled { len, sound: true };
         }
@@ -88,10 +87,15 @@ fn tell(page: &[u8], output: &mut [u8]) -> usize
 }
 
 // Writes the first bytes of the output, or says that it cannot.
-fn write_out(output: &[u8], count: usize)
+fn write_out(rt: &HostRuntime, output: &[u8], count: usize)
     requires { count ≤ length output.now }
 {
-    if !io::write_all(STDOUT_FILENO, &output[..count]) {
-        os::fail(b"replay: standard output");
+    if let Err(e) = rt.stdout().write_all(&output[..count]) {
+        say(rt, "standard output", e);
     }
+}
+
+// Says on standard error what failed. Where that cannot be written either, nothing is left to do.
+fn say(rt: &HostRuntime, what: &str, e: io::Error) {
+    let _ = eprintln!(rt; "replay: {what}: {e}");
 }

@@ -25,11 +25,15 @@ mod questions;
 mod request;
 mod road;
 
-use libc::{STDIN_FILENO, STDOUT_FILENO};
+use std::io;
+use std::io::{Read, Write};
 
 // More bytes than an answer has, with an account of 256 places in it or a page of a line: with fewer left
 // the output is written.
 const ANSWER: usize = 25000;
+
+// The bytes of a read, and of the output that waits: large, for much data.
+const BUFFER: usize = 65536;
 
 // What goes from read to read: how many bytes of the line that comes in stand in the room, how many
 // bytes of the output wait to be written, and whether all writes went well.
@@ -40,16 +44,16 @@ struct State {
     sound: bool,
 }
 
-fn main() {
-    let mut input = io::large_buffer();
-    let mut output = io::large_buffer();
+fn main(rt: HostRuntime) {
+    let mut input = [0u8; BUFFER];
+    let mut output = [0u8; BUFFER];
     let mut room = [0u8; lines::ROOM];
-    answer_all(&mut input, &mut room, &mut output);
+    answer_all(&rt, &mut input, &mut room, &mut output);
 }
 
 // Reads until the input ends. Nothing says that it does, so the reads count down, from a number that
 // no run uses up. What waits is written before each read.
-fn answer_all(input: &mut [u8], room: &mut [u8], output: &mut [u8]) {
+fn answer_all(rt: &HostRuntime, input: &mut [u8], room: &mut [u8], output: &mut [u8]) {
     let mut state = State {
         len: 0,
         waiting: 0,
@@ -57,40 +61,44 @@ fn answer_all(input: &mut [u8], room: &mut [u8], output: &mut [u8]) {
     };
     let mut reads = u64::MAX;
     while reads > 0 {
-        state = write_out(state, output);
+        state = write_out(rt, state, output);
         if !state.sound {
             return;
         }
-        let got = libc::read(STDIN_FILENO, input);
-        if got < 0 {
-            os::fail(b"trials: standard input");
-            return;
-        }
-        let n = io::count(got, input);
+        let n = match rt.stdin().read(input) {
+            Ok(n) => n,
+            Err(e) => return say(rt, "standard input", e),
+        };
         if n == 0 {
-            finish(state, room, output);
+            finish(rt, state, room, output);
             return;
         }
-        state = take(state, &input[..n], room, output);
+        state = take(rt, state, &input[..n], room, output);
         reads -= 1;
     }
 }
 
 // Answers the lines that end in the bytes of one read, up to a failed write.
-fn take(start: State, bytes: &[u8], room: &mut [u8], output: &mut [u8]) -> State {
+fn take(rt: &HostRuntime, start: State, bytes: &[u8], room: &mut [u8], output: &mut [u8]) -> State {
     let mut state = start;
     let mut i = 0;
     while i < bytes.len() && state.sound {
-        state = take_byte(state, bytes[i], room, output);
+        state = take_byte(rt, state, bytes[i], room, output);
         i += 1;
     }
     state
 }
 
 // A line feed ends a line; any other byte goes into the room.
-fn take_byte(state: State, byte: u8, room: &mut [u8], output: &mut [u8]) -> State {
+fn take_byte(
+    rt: &HostRuntime,
+    state: State,
+    byte: u8,
+    room: &mut [u8],
+    output: &mut [u8],
+) -> State {
     if byte == b'\n' {
-        return end_line(state, room, output);
+        return end_line(rt, state, room, output);
     }
     let len = lines::add(room, state.len, byte);
     State {
@@ -101,7 +109,7 @@ fn take_byte(state: State, byte: u8, room: &mut [u8], output: &mut [u8]) -> Stat
 }
 
 // Answers a line and starts the next, and writes what waits where little room is left.
-fn end_line(state: State, room: &[u8], output: &mut [u8]) -> State {
+fn end_line(rt: &HostRuntime, state: State, room: &[u8], output: &mut [u8]) -> State {
     let waiting = request::answer_line(room, state.len, output, state.waiting);
     let next = State {
         len: 0,
@@ -111,19 +119,16 @@ fn end_line(state: State, room: &[u8], output: &mut [u8]) -> State {
     if waiting < output.len() && output.len() - waiting >= ANSWER {
         return next;
     }
-    write_out(next, output)
+    write_out(rt, next, output)
 }
 
 // Writes what waits, or says that it cannot. After a failed write it writes nothing.
-fn write_out(state: State, output: &[u8]) -> State {
+fn write_out(rt: &HostRuntime, state: State, output: &[u8]) -> State {
     if !state.sound {
         return state;
     }
     let waiting = state.waiting;
-    let sound = waiting <= output.len() && io::write_all(STDOUT_FILENO, &output[0..waiting]);
-    if !sound {
-        os::fail(b"trials: standard output");
-    }
+    let sound = waiting <= output.len() && written(rt, &output[0..waiting]);
     State {
         len: state.len,
         waiting: 0,
@@ -133,8 +138,24 @@ fn write_out(state: State, output: &[u8]) -> State {
 
 // Answers a last line that has no line feed, and writes what waits. No line starts after a line feed
 // that ends the input.
-fn finish(state: State, room: &[u8], output: &mut [u8]) {
+fn finish(rt: &HostRuntime, state: State, room: &[u8], output: &mut [u8]) {
     if state.len > 0 {
-        write_out(end_line(state, room, output), output);
+        write_out(rt, end_line(rt, state, room, output), output);
     }
+}
+
+// Writes bytes to standard output, or says that it cannot.
+fn written(rt: &HostRuntime, bytes: &[u8]) -> bool {
+    match rt.stdout().write_all(bytes) {
+        Ok(()) => true,
+        Err(e) => {
+            say(rt, "standard output", e);
+            false
+        }
+    }
+}
+
+// Says on standard error what failed. Where that cannot be written either, nothing is left to do.
+fn say(rt: &HostRuntime, what: &str, e: io::Error) {
+    let _ = eprintln!(rt; "trials: {what}: {e}");
 }

@@ -1,0 +1,13 @@
+-- `boundary::asked::unmet` meets its contract: every edge before the loop misses. Assumes nothing.
+-- what is told of the edge at the loop's place
+use Prim.Native.Nat.{◌-◌, ◌/◌}
+use lib.ListN.{length}
+use Rattle.edge.specs.Edge.{edge}
+use Rattle.boundary.specs.ListedLaws.{UnmetFrom}
+use Rattle.boundary.proofs.asked.unmet.Given as goal
+
+abbrev pub invariant-loop-i : goal.invariant-loop-i
+invariant-loop-i l = UnmetFrom l.edges l.r l.i
+
+abbrev pub decreases-loop-i : goal.decreases-loop-i
+decreases-loop-i l = length l.edges / 4 - l.i
