@@ -1,0 +1,13 @@
+-- `crossed::rows::list_near` meets its contract: all is told of the rows behind the loop, from the last back. Assumes nothing.
+-- what is told of the row at the loop's place
+-- the room is as long as it was
+use Prim.Native.Nat.{◌-◌}
+use lib.ListN.{length}
+use Rattle.crossed.specs.NearRows.{Nearing}
+use Rattle.crossed.proofs.rows.list_near.Given as goal
+
+abbrev pub invariant-loop-row : goal.invariant-loop-row
+invariant-loop-row l = Nearing l.extents l.own l.rows (length l.initial.near) l.near l.row l.first
+
+abbrev pub decreases-loop-row : goal.decreases-loop-row
+decreases-loop-row l = l.row
