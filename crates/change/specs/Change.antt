@@ -66,6 +66,19 @@ abbrev pub acting_at : Kind → List ℕ → ℕ → Halves → ℕ → ℕ → 
 acting_at Activate active place code number total = activating active place code number total
 acting_at Cancel active place code number total = cancelling place number total
 
+-- and of a code in an account
+abbrev pub acting_on : Kind → Account → Halves → ℕ → Change
+acting_on kind account code number = acting_at kind account.active (place_of account code) code number account.total
+
+-- 41, 42 and "old" change nothing
+unfoldable pub change_of : Kind → Account → List ℕ → ℕ → Change
+change_of kind account text number =
+    cond (eqb number 0 || ltb largest number) (keeps answer.Number account.last account.total)
+    (cond (not (readable text)) (keeps answer.Code account.last account.total)
+    (cond (leb number account.last) (keeps answer.Old account.last account.total) (acting_on kind account (halves_in text) number)))
+
+-- ---- a message of a code that was read, as a journal has it
+
 -- either message with a number in range, of a code that was read and has a place: "old" changes nothing
 unfoldable pub change_at : Kind → List ℕ → ℕ → ℕ → ℕ → Halves → ℕ → Change
 change_at kind active last total place code number =
@@ -75,9 +88,3 @@ change_at kind active last total place code number =
 abbrev pub change_by : Kind → Account → Halves → ℕ → Change
 change_by kind account code number =
     change_at kind account.active account.last account.total (place_of account code) code number
-
--- a message of any text and any number: neither do 41 and 42
-unfoldable pub change_of : Kind → Account → List ℕ → ℕ → Change
-change_of kind account text number =
-    cond (eqb number 0 || ltb largest number) (keeps answer.Number account.last account.total)
-    (cond (not (readable text)) (keeps answer.Code account.last account.total) (change_by kind account (halves_in text) number))

@@ -32,9 +32,8 @@ use Rattle.entitlements.specs.Entitlements.{
   refusal,
   old,
 }
-use Rattle.change.specs.declared.Change.{Change}
 use Rattle.change.specs.declared.Step.{Step}
-use Rattle.change.specs.Change.{stepped, keeps, puts, makes, activating, cancelling, acting_at, change_at, change_by, change_of}
+use Rattle.change.specs.Change.{stepped, keeps, puts, makes, activating, cancelling, acting_on, acting_at, change_at, change_by, change_of}
 
 -- ---- a step that puts something at a place, and one that puts nothing
 
@@ -60,11 +59,7 @@ stepped_last step high low active last total other sum = at (ltb step.place plac
 -- ---- a change does what processing does
 
 module _ (account : Account) (code : Halves) (number : ℕ) where
-  -- what either message does at its code's place
-  abbrev acting_on : Kind → Change
-  acting_on kind = acting_at kind account.active (place_of account code) code number account.total
-
-  acting_makes : (kind : Kind) → makes (acting_on kind) account ≡ acting kind account code number
+  acting_makes : (kind : Kind) → makes (acting_on kind account code number) account ≡ acting kind account code number
   unfolding activating cancelling activation cancellation
   acting_makes Activate = at (ltb (place_of account code) places) (ltb (free_place account) places) refl refl
     where
@@ -82,14 +77,14 @@ module _ (account : Account) (code : Halves) (number : ℕ) where
 
 pub change_processing : (kind : Kind) (account : Account) (text : List ℕ) (number : ℕ)
     → makes (change_of kind account text number) account ≡ processing kind account text number
-unfolding change_of change_at processing
+unfolding change_of processing
 change_processing kind account text number = at (eqb number 0 || ltb largest number) (readable text) (leb number account.last)
   where
     at : (n r o : Bool)
         → makes
         (cond n (keeps answer.Number account.last account.total)
         (cond (not r) (keeps answer.Code account.last account.total)
-        (cond o (keeps answer.Old account.last account.total) (acting_on account (halves_in text) number kind))))
+        (cond o (keeps answer.Old account.last account.total) (acting_on kind account (halves_in text) number))))
         account
         ≡ cond n (done (refusal 41) account)
         (cond (not r) (done (refusal 42) account) (cond o (done old account) (acting kind account (halves_in text) number)))
@@ -129,22 +124,22 @@ module _ (place number total : ℕ) where
 
 module _ (kind : Kind) (active : List ℕ) (last total : ℕ) (code : Halves) (number : ℕ) where
   -- "old"
-  pub change_old : (place : ℕ) → number ≤ last → change_at kind active last total place code number ≡ keeps answer.Old last total
+  pub at_old : (place : ℕ) → number ≤ last → change_at kind active last total place code number ≡ keeps answer.Old last total
   unfolding change_at
-  change_old place h = rw (le-leb number last h)
+  at_old place h = rw (le-leb number last h)
 
   -- wherever the code is
   pub old_anywhere : (place other : ℕ) → number ≤ last
       → change_at kind active last total place code number ≡ change_at kind active last total other code number
-  old_anywhere place other h = change_old place h ∙ sym (change_old other h)
+  old_anywhere place other h = at_old place h ∙ sym (at_old other h)
 
   -- and then the message acts
-  pub change_acts : (place : ℕ) → last < number
+  pub at_acts : (place : ℕ) → last < number
       → change_at kind active last total place code number ≡ acting_at kind active place code number total
   unfolding change_at
-  change_acts place h = rw (lt-leb number last h)
+  at_acts place h = rw (lt-leb number last h)
 
--- ---- the cases of any message
+-- ---- the cases of a message
 
 module _ (kind : Kind) (account : Account) (text : List ℕ) (number : ℕ) where
   -- 41: the number is 0, or too large
@@ -162,9 +157,23 @@ module _ (kind : Kind) (account : Account) (text : List ℕ) (number : ℕ) wher
     unfolding change_of
     change_refused e = rw (ne_eqb number 0 some, le-ltb largest number most, code_refused text e)
 
-    -- and where it is one, the message goes by its halves
-    pub change_read : {code : Halves} → code_in text ≡ Read code → change_of kind account text number ≡ change_by kind account code number
+    -- "old"
+    pub change_old : {code : Halves} → code_in text ≡ Read code → number ≤ account.last
+        → change_of kind account text number ≡ keeps answer.Old account.last account.total
     unfolding change_of
+    change_old e h = rw (ne_eqb number 0 some, le-ltb largest number most, (code_read text e).0, le-leb number account.last h)
+
+    -- and then the message acts
+    pub change_acts : {code : Halves} → code_in text ≡ Read code → account.last < number
+        → change_of kind account text number ≡ acting_on kind account code number
+    unfolding change_of
+    change_acts e h =
+        rw (ne_eqb number 0 some, le-ltb largest number most, (code_read text e).0, lt-leb number account.last h)
+        (ap (λ (code : Halves). acting_on kind account code number) (code_read text e).1)
+
+    -- where it is one, the message goes by its halves
+    pub change_read : {code : Halves} → code_in text ≡ Read code → change_of kind account text number ≡ change_by kind account code number
+    unfolding change_of change_at
     change_read e =
         rw (ne_eqb number 0 some, le-ltb largest number most, (code_read text e).0)
         (ap (λ (code : Halves). change_by kind account code number) (code_read text e).1)

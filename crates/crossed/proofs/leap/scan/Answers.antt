@@ -2,12 +2,12 @@
 use Prim.Native.Nat.{◌-◌}
 use native.Mathlib.Omega.{arith}
 use mathlib.Core.Path.{sym, ◌∙◌}
-use mathlib.Core.Logic.{⊎_elim}
 use Rattle.edge.specs.Edge.{edge}
 use Rattle.boundary.specs.Listed.{edge_from}
 use Rattle.pair.specs.PairLaws.{up, across}
 use Rattle.crossed.specs.Leaps.{apart_along, skipped_none, skipped_less, skipped_again}
 use Rattle.crossed.proofs.leap.scan.Goals as goal
+use Rattle.crossed.proofs.leap.scan.Goals.{else-lats_overlap-via-then-lats_overlap+else-lons_overlap, else-lats_overlap-via-else-lats_overlap}
 
 pub loop-j-init : goal.loop-j-init
 loop-j-init c = (omega arith, skipped_none _ _ _)
@@ -23,8 +23,10 @@ loop-j-preserved c =
     let f = edge_from a.numbers.now c.loop-j.j in (
       omega (arith, c.loop-j.invariant.0),
       skipped_again c.loop-j.invariant.1
-          (⊎_elim (λ w. apart_along e f across (sym w.1.ensures ∙ w.2.left)) (λ w. apart_along e f up (sym c.lats_overlap.ensures ∙ w.left))
-          c.else-lats_overlap.branch),
+          (elim c.else-lats_overlap.branch [
+            | else-lats_overlap-via-then-lats_overlap+else-lons_overlap w ↦ apart_along e f across (sym w.lons_overlap.ensures ∙ w.if-lons_overlap.false)
+            | else-lats_overlap-via-else-lats_overlap w ↦ apart_along e f up (sym c.lats_overlap.ensures ∙ w.if-lats_overlap.false)
+          ]),
     )
 
 pub returns : goal.returns

@@ -3,14 +3,13 @@
 -- the room is as long as it was
 use Prim.Native.Nat.{◌-◌, ◌*◌}
 use mathlib.Core.Path.{◌≡◌, sym, ap, ap₂, ◌∙◌}
-use mathlib.Core.Logic.{⊎_elim}
 use lib.ListN.{length, length-set}
-use borrow.Author.Tests.{not-false}
 use Rattle.edge.specs.Edge.{Edge, edge}
 use Rattle.boundary.specs.Listed.{edge_in}
 use Rattle.crossed.specs.Rows.{row_apart}
 use Rattle.crossed.specs.NearRows.{nearing_begin, nearing_there, nearing_later, nearing_end}
 use Rattle.crossed.proofs.rows.list_near.Goals as goal
+use Rattle.crossed.proofs.rows.list_near.Goals.{then-not-row_apart, else-not-row_apart}
 
 pub loop-row-init : goal.loop-row-init
 loop-row-init c =
@@ -19,14 +18,18 @@ loop-row-init c =
 pub loop-row-preserved : goal.loop-row-preserved
 loop-row-preserved c =
     let less = c.loop-row-test.true in
-    ⊎_elim (λ t. nearing_there c.loop-row.invariant less t.1)
-    (λ t. nearing_later c.loop-row.invariant less t.1 (sym ((let told_here : let a = c.args in c.row_apart.result ≡ row_apart (edge_in a.extents.now a.own_val) (edge_in a.extents.now (c.loop-row.row - 1)) = let a = c.args in c.row_apart.ensures ∙ ap (λ (e : Edge). row_apart e (edge_in a.extents.now (c.loop-row.row - 1))) (ap₂ edge c.corner.ensures c.corner-in-loop-row.ensures) in told_here)) ∙ not-false c.row_apart.result t.0.left))
-    c.if-not-row_apart.branch
+    let told : c.row_apart.result ≡ row_apart (edge_in c.args.extents.now c.args.own) (edge_in c.args.extents.now (c.loop-row.row - 1)) =
+    c.row_apart.ensures
+    ∙ ap (λ (e : Edge). row_apart e (edge_in c.args.extents.now (c.loop-row.row - 1))) (ap₂ edge c.corner.ensures c.corner-in-loop-row.ensures) in
+    elim c.if-not-row_apart.branch [
+      | then-not-row_apart w ↦ nearing_there c.loop-row.invariant less w.first-is
+      | else-not-row_apart w ↦ nearing_later c.loop-row.invariant less w.first-is (sym told ∙ w.if-not-row_apart.false)
+    ]
 
 pub shape_of-near : goal.shape_of-near
 shape_of-near c =
-    (let whole_here : length c.loop-row.near ≡ length c.args.near.now = let a = c.args in c.loop-row.invariant.long ∙ length-set a.near.now a.rows (8 * a.rows) in whole_here)
+    (c.loop-row.invariant.long ∙ length-set c.args.near.now c.args.rows (8 * c.args.rows))
 
 pub returns : goal.returns
 returns c =
-    record { near_len_unchanged = (let whole_here : length c.loop-row.near ≡ length c.args.near.now = let a = c.args in c.loop-row.invariant.long ∙ length-set a.near.now a.rows (8 * a.rows) in whole_here); near = nearing_end c.loop-row.invariant c.loop-row-test.false }
+    record { near_len_unchanged = (c.loop-row.invariant.long ∙ length-set c.args.near.now c.args.rows (8 * c.args.rows)); near = nearing_end c.loop-row.invariant c.loop-row-test.false }

@@ -3,12 +3,12 @@
 use Prim.Native.Nat.{◌-◌}
 use native.Mathlib.Omega.{arith}
 use mathlib.Core.Path.{refl, sym, subst, ◌∙◌}
-use mathlib.Core.Logic.{⊎_elim}
 use lib.ListN.{length}
 use borrow.Author.Rules.{rules}
 use Rattle.crossed.specs.NearRows.{Rooms}
 use Rattle.crossed.specs.Searching.{before_first, between_first, between_leap, between_next, before_next, search_nowhere, search_pair}
 use Rattle.crossed.proofs.search.search.Goals as goal
+use Rattle.crossed.proofs.search.search.Goals.{else-j-count-via-then-j-count+else-meeting, else-j-count-via-else-j-count}
 
 pub edges-init : goal.edges-init
 edges-init c = (before_first _ _, refl)
@@ -41,7 +41,10 @@ loop-j-smaller c = omega (arith, c.loop-j-test.true, c.leap-j.ensures.lower_boun
 pub loop-j-preserved : goal.loop-j-preserved
 loop-j-preserved c =
     between_next (between_leap c.loop-j.invariant c.leap-j.ensures.lower_bound.0 c.leap-j.ensures.skipped)
-    (λ less. ⊎_elim (λ w. sym w.1.ensures ∙ w.2.left) (λ w. absurd (omega (arith, less, w.left))) c.else-j-count.branch)
+    (λ less. elim c.else-j-count.branch [
+      | else-j-count-via-then-j-count+else-meeting w ↦ sym w.meeting.ensures ∙ w.if-meeting.false
+      | else-j-count-via-else-j-count w ↦ absurd (omega (arith, less, w.if-j-count.false))
+    ])
 
 pub edges-smaller : goal.edges-smaller
 edges-smaller c =

@@ -1,0 +1,27 @@
+-- `ending::end_at` meets its contract: by the sides found, or none. Assumes nothing.
+use mathlib.Core.Path.{◌≡◌, ap, sym, ◌∙◌}
+use mathlib.Core.Bool.{true}
+use Rattle.ground.specs.Cells.{sides_of, is_cell}
+use Rattle.ground.specs.CellsLaws.{found_of, found_none}
+use Rattle.code.specs.declared.Fields.{Fields}
+use Rattle.code.specs.Code.{writing}
+use Rattle.unit.specs.Frame.{ending}
+use Rattle.unit.specs.FrameLaws.{finish_cell, finish_none}
+use Rattle.ending.proofs.end_at.Goals as goal
+
+pub fields-requires : goal.fields-requires
+fields-requires c =
+    ((let found_here : (is_cell c.args.c ≡ true) × (c.in-Of.sides ≡ sides_of c.args.c) = found_of c.args.c c.in-Of.sides (sym c.in-Of.is ∙ c.sides_found-found.ensures) in found_here)).1
+
+pub returns-in-Of : goal.returns-in-Of
+returns-in-Of c =
+    let a = c.args in
+    c.end.ensures
+    ∙ ap (λ (f : Fields). ending (writing a.room.now f)) c.fields.ensures
+    ∙ finish_cell a.room.now a.r a.number a.c ((let found_here : (is_cell c.args.c ≡ true) × (c.in-Of.sides ≡ sides_of c.args.c) = found_of c.args.c c.in-Of.sides (sym c.in-Of.is ∙ c.sides_found-found.ensures) in found_here)).0
+
+pub returns-in-NoCell : goal.returns-in-NoCell
+returns-in-NoCell c =
+    let a = c.args in
+    finish_none a.room.now a.r a.number a.c
+    (found_none a.c (sym c.in-NoCell.is ∙ c.sides_found-found.ensures))

@@ -1,0 +1,26 @@
+-- `ending::fields::fields` meets its contract: the fields at the level tried first, or all of them one level coarser. Assumes nothing.
+-- the level tried first is one
+-- what the fields at the level tried first decide
+use mathlib.Core.Path.{◌≡◌, sym, ◌∙◌}
+use mathlib.Core.Bool.{Bool, cond}
+use Rattle.ground.specs.Levels.{IsLevel}
+use Rattle.unit.specs.Unit.{fields_at, coarser, fields_of}
+use Rattle.ending.specs.FieldsLaws.{first_level, next_level, fields_decided}
+use Rattle.ending.proofs.fields.fields.Goals as goal
+
+pub fields_at-f-requires : goal.fields_at-f-requires
+fields_at-f-requires c =
+    (let first_here : IsLevel c.scale_of-level.result = first_level c.span.result c.scale_of-level.ensures in first_here)
+
+pub fields_at-requires : goal.fields_at-requires
+fields_at-requires c =
+    next_level ((let first_here : IsLevel c.scale_of-level.result = first_level c.span.result c.scale_of-level.ensures in first_here)) c.coarser.ensures
+
+pub returns-then-above_31 : goal.returns-then-above_31
+unfolding fields_at
+returns-then-above_31 c =
+    rw (c.fields_at.ensures, c.coarser.ensures) ((let decided_here : {b : Bool} → c.above_31.result ≡ b → let a = c.args in fields_at (cond b (coarser c.scale_of-level.result) c.scale_of-level.result) a.r a.number c.reference-p.result ≡ fields_of a.r a.number a.c = λ e. let a = c.args in fields_decided a.r a.number a.c c.reference-p.ensures c.span.ensures c.scale_of-level.ensures c.fields_at-f.ensures (sym c.above_31.ensures ∙ e) in decided_here) c.if-above_31.true)
+
+pub returns : goal.returns
+returns c =
+    c.fields_at-f.ensures ∙ (let decided_here : {b : Bool} → c.above_31.result ≡ b → let a = c.args in fields_at (cond b (coarser c.scale_of-level.result) c.scale_of-level.result) a.r a.number c.reference-p.result ≡ fields_of a.r a.number a.c = λ e. let a = c.args in fields_decided a.r a.number a.c c.reference-p.ensures c.span.ensures c.scale_of-level.ensures c.fields_at-f.ensures (sym c.above_31.ensures ∙ e) in decided_here) c.if-above_31.false

@@ -1,0 +1,15 @@
+-- `ending::finish` meets its contract: around a cell, or none. Assumes nothing.
+use mathlib.Core.Path.{ap, sym, ◌∙◌}
+use Rattle.unit.specs.Frame.{finishing}
+use Rattle.unit.specs.FrameLaws.{finish_nowhere}
+use Rattle.ending.proofs.finish.Goals as goal
+
+pub returns-in-At : goal.returns-in-At
+returns-in-At c =
+    let a = c.args in
+    c.end_at.ensures ∙ ap (finishing a.room.now a.r a.number) (sym c.in-At.is)
+
+pub returns-in-Nowhere : goal.returns-in-Nowhere
+returns-in-Nowhere c =
+    let a = c.args in
+    finish_nowhere a.room.now a.r a.number ∙ ap (finishing a.room.now a.r a.number) (sym c.in-Nowhere.is)
