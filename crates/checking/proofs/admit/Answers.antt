@@ -32,19 +32,24 @@ returns-then-coded_number-ne0 c =
 
 pub late_checks-late-requires : goal.late_checks-late-requires
 late_checks-late-requires c =
+    let passed : (says c.early_checks-early.result).number ≡ 0 = sym c.coded_number.ensures ∙ c.if-coded_number-ne0.false in
     let a = c.args in record {
       numbers_len_bound = (shaped a.numbers.now
           (both_pass (room_check a.room) (shape_checks a.numbers.now) tt
-          (ap (λ (s : Said). s.number) (sym c.early_checks-early.ensures) ∙ (let passed_here : (says c.early_checks-early.result).number ≡ 0 = sym c.coded_number.ensures ∙ c.if-coded_number-ne0.false in passed_here))).1).most;
+          (ap (λ (s : Said). s.number) (sym c.early_checks-early.ensures) ∙ passed)).1).most;
       r_value = c.extremes-r.ensures;
     }
 
 pub returns-then-coded_number-ne0-2 : goal.returns-then-coded_number-ne0-2
 unfolding first_checks
 returns-then-coded_number-ne0-2 c =
-    admitting_refuses _ _ _ _ ((let said_here : let a = c.args in says c.late_checks-late.result ≡ run (first_checks a.room a.numbers.now a.kind a.number) = let a = c.args in goes_on (early a.room a.numbers.now) (late a.numbers.now a.kind a.number) tt c.early_checks-early.ensures ((let passed_here : (says c.early_checks-early.result).number ≡ 0 = sym c.coded_number.ensures ∙ c.if-coded_number-ne0.false in passed_here)) c.late_checks-late.ensures in said_here)) (λ e. c.if-coded_number-ne0-2.true (c.coded_number-2.ensures ∙ e))
+    let passed : (says c.early_checks-early.result).number ≡ 0 = sym c.coded_number.ensures ∙ c.if-coded_number-ne0.false in
+    let said : let a = c.args in says c.late_checks-late.result ≡ run (first_checks a.room a.numbers.now a.kind a.number) = let a = c.args in goes_on (early a.room a.numbers.now) (late a.numbers.now a.kind a.number) tt c.early_checks-early.ensures passed c.late_checks-late.ensures in
+    admitting_refuses _ _ _ _ said (λ e. c.if-coded_number-ne0-2.true (c.coded_number-2.ensures ∙ e))
 
 pub returns : goal.returns
 unfolding first_checks
 returns c =
-    admitting_accepts _ _ _ _ ((let said_here : let a = c.args in says c.late_checks-late.result ≡ run (first_checks a.room a.numbers.now a.kind a.number) = let a = c.args in goes_on (early a.room a.numbers.now) (late a.numbers.now a.kind a.number) tt c.early_checks-early.ensures ((let passed_here : (says c.early_checks-early.result).number ≡ 0 = sym c.coded_number.ensures ∙ c.if-coded_number-ne0.false in passed_here)) c.late_checks-late.ensures in said_here)) (sym c.coded_number-2.ensures ∙ c.if-coded_number-ne0-2.false) c.extremes-r.ensures
+    let passed : (says c.early_checks-early.result).number ≡ 0 = sym c.coded_number.ensures ∙ c.if-coded_number-ne0.false in
+    let said : let a = c.args in says c.late_checks-late.result ≡ run (first_checks a.room a.numbers.now a.kind a.number) = let a = c.args in goes_on (early a.room a.numbers.now) (late a.numbers.now a.kind a.number) tt c.early_checks-early.ensures passed c.late_checks-late.ensures in
+    admitting_accepts _ _ _ _ said (sym c.coded_number-2.ensures ∙ c.if-coded_number-ne0-2.false) c.extremes-r.ensures

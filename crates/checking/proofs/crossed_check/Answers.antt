@@ -13,11 +13,14 @@ use Rattle.checking.proofs.crossed_check.Goals as goal
 
 pub overflow_cast-corner : goal.overflow_cast-corner
 overflow_cast-corner c =
-    search (rules, ((let low_here : (c.in-Pair.first < 1024) × (c.in-Pair.field-1 < 1024) = let numbers = c.args.numbers.now in let within = pair_within (corners_of numbers) ((let found_here : pair_of (corners_of c.args.numbers.now) ≡ Pair c.in-Pair.first c.in-Pair.field-1 = sym c.first_pair.ensures ∙ c.in-Pair.is in found_here)) in (omega (arith, within.0, corners_length numbers, c.requires), omega (arith, within.1, corners_length numbers, c.requires)) in low_here)).0, ((let low_here : (c.in-Pair.first < 1024) × (c.in-Pair.field-1 < 1024) = let numbers = c.args.numbers.now in let within = pair_within (corners_of numbers) ((let found_here : pair_of (corners_of c.args.numbers.now) ≡ Pair c.in-Pair.first c.in-Pair.field-1 = sym c.first_pair.ensures ∙ c.in-Pair.is in found_here)) in (omega (arith, within.0, corners_length numbers, c.requires), omega (arith, within.1, corners_length numbers, c.requires)) in low_here)).1)
+    let found : pair_of (corners_of c.args.numbers.now) ≡ Pair c.in-Pair.first c.in-Pair.field-1 = sym c.first_pair.ensures ∙ c.in-Pair.is in
+    let low : (c.in-Pair.first < 1024) × (c.in-Pair.field-1 < 1024) = let numbers = c.args.numbers.now in let within = pair_within (corners_of numbers) found in (omega (arith, within.0, corners_length numbers, c.requires), omega (arith, within.1, corners_length numbers, c.requires)) in
+    search (rules, low.0, low.1)
 
 pub returns-in-Pair : goal.returns-in-Pair
 returns-in-Pair c =
-    rw ((let found_here : pair_of (corners_of c.args.numbers.now) ≡ Pair c.in-Pair.first c.in-Pair.field-1 = sym c.first_pair.ensures ∙ c.in-Pair.is in found_here))
+    let found : pair_of (corners_of c.args.numbers.now) ≡ Pair c.in-Pair.first c.in-Pair.field-1 = sym c.first_pair.ensures ∙ c.in-Pair.is in
+    rw found
 
 pub returns-in-Nowhere : goal.returns-in-Nowhere
 returns-in-Nowhere c = rw (sym c.first_pair.ensures ∙ c.in-Nowhere.is)

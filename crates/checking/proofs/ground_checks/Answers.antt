@@ -27,16 +27,21 @@ above numbers = ltb (place numbers) (length (corners_of numbers))
 
 pub returns-then-above-numbers : goal.returns-then-above-numbers
 returns-then-above-numbers c =
-    rw ((let found_here : above c.args.numbers.now ≡ true = let numbers = c.args.numbers.now in lt-ltb (place numbers) (length (corners_of numbers)) (omega (arith, corners_length numbers, c.first_above-above.ensures, c.if-above-numbers.true)) in found_here), c.first_above-above.ensures)
+    let found : above c.args.numbers.now ≡ true = let numbers = c.args.numbers.now in lt-ltb (place numbers) (length (corners_of numbers)) (omega (arith, corners_length numbers, c.first_above-above.ensures, c.if-above-numbers.true)) in
+    rw (found, c.first_above-above.ensures)
 
 pub returns-then-span-gt-DEGREE : goal.returns-then-span-gt-DEGREE
 returns-then-span-gt-DEGREE c =
-    rw ((let none_here : above c.args.numbers.now ≡ false = let numbers = c.args.numbers.now in le-ltb (place numbers) (length (corners_of numbers)) (omega (arith, corners_length numbers, c.first_above-above.ensures, c.if-above-numbers.false)) in none_here), (let told_here : above_degree (extremes_of (corners_of c.args.numbers.now)) ≡ ltb degree c.span.result = sym (span_above (extremes_of (corners_of c.args.numbers.now))) ∙ ap (λ (r : Rectangle). ltb degree (span_of r)) (sym c.requires.r_value) ∙ ap (ltb degree) (sym c.span.ensures) in told_here) ∙ lt-ltb degree c.span.result (omega (arith, c.if-span-gt-DEGREE.true)))
+    let none : above c.args.numbers.now ≡ false = let numbers = c.args.numbers.now in le-ltb (place numbers) (length (corners_of numbers)) (omega (arith, corners_length numbers, c.first_above-above.ensures, c.if-above-numbers.false)) in
+    let told : above_degree (extremes_of (corners_of c.args.numbers.now)) ≡ ltb degree c.span.result = sym (span_above (extremes_of (corners_of c.args.numbers.now))) ∙ ap (λ (r : Rectangle). ltb degree (span_of r)) (sym c.requires.r_value) ∙ ap (ltb degree) (sym c.span.ensures) in
+    rw (none, told ∙ lt-ltb degree c.span.result (omega (arith, c.if-span-gt-DEGREE.true)))
 
 pub returns : goal.returns
 returns c =
+    let none : above c.args.numbers.now ≡ false = let numbers = c.args.numbers.now in le-ltb (place numbers) (length (corners_of numbers)) (omega (arith, corners_length numbers, c.first_above-above.ensures, c.if-above-numbers.false)) in
+    let told : above_degree (extremes_of (corners_of c.args.numbers.now)) ≡ ltb degree c.span.result = sym (span_above (extremes_of (corners_of c.args.numbers.now))) ∙ ap (λ (r : Rectangle). ltb degree (span_of r)) (sym c.requires.r_value) ∙ ap (ltb degree) (sym c.span.ensures) in
     rw (
-      (let none_here : above c.args.numbers.now ≡ false = let numbers = c.args.numbers.now in le-ltb (place numbers) (length (corners_of numbers)) (omega (arith, corners_length numbers, c.first_above-above.ensures, c.if-above-numbers.false)) in none_here),
-      (let told_here : above_degree (extremes_of (corners_of c.args.numbers.now)) ≡ ltb degree c.span.result = sym (span_above (extremes_of (corners_of c.args.numbers.now))) ∙ ap (λ (r : Rectangle). ltb degree (span_of r)) (sym c.requires.r_value) ∙ ap (ltb degree) (sym c.span.ensures) in told_here) ∙ le-ltb degree c.span.result (omega (arith, c.if-span-gt-DEGREE.false)),
+      none,
+      told ∙ le-ltb degree c.span.result (omega (arith, c.if-span-gt-DEGREE.false)),
       c.crossed_check.ensures,
     )

@@ -10,17 +10,21 @@ use Rattle.ending.proofs.fields.fields.Goals as goal
 
 pub fields_at-f-requires : goal.fields_at-f-requires
 fields_at-f-requires c =
-    (let first_here : IsLevel c.scale_of-level.result = first_level c.span.result c.scale_of-level.ensures in first_here)
+    let first : IsLevel c.scale_of-level.result = first_level c.span.result c.scale_of-level.ensures in
+    first
 
 pub fields_at-requires : goal.fields_at-requires
 fields_at-requires c =
-    next_level ((let first_here : IsLevel c.scale_of-level.result = first_level c.span.result c.scale_of-level.ensures in first_here)) c.coarser.ensures
+    let first : IsLevel c.scale_of-level.result = first_level c.span.result c.scale_of-level.ensures in
+    next_level first c.coarser.ensures
 
 pub returns-then-above_31 : goal.returns-then-above_31
 unfolding fields_at
 returns-then-above_31 c =
-    rw (c.fields_at.ensures, c.coarser.ensures) ((let decided_here : {b : Bool} → c.above_31.result ≡ b → let a = c.args in fields_at (cond b (coarser c.scale_of-level.result) c.scale_of-level.result) a.r a.number c.reference-p.result ≡ fields_of a.r a.number a.c = λ e. let a = c.args in fields_decided a.r a.number a.c c.reference-p.ensures c.span.ensures c.scale_of-level.ensures c.fields_at-f.ensures (sym c.above_31.ensures ∙ e) in decided_here) c.if-above_31.true)
+    let decided : (b : Bool) → c.above_31.result ≡ b → let a = c.args in fields_at (cond b (coarser c.scale_of-level.result) c.scale_of-level.result) a.r a.number c.reference-p.result ≡ fields_of a.r a.number a.c = λ b e. let a = c.args in fields_decided a.r a.number a.c c.reference-p.ensures c.span.ensures c.scale_of-level.ensures c.fields_at-f.ensures (sym c.above_31.ensures ∙ e) in
+    rw (c.fields_at.ensures, c.coarser.ensures) (decided _ c.if-above_31.true)
 
 pub returns : goal.returns
 returns c =
-    c.fields_at-f.ensures ∙ (let decided_here : {b : Bool} → c.above_31.result ≡ b → let a = c.args in fields_at (cond b (coarser c.scale_of-level.result) c.scale_of-level.result) a.r a.number c.reference-p.result ≡ fields_of a.r a.number a.c = λ e. let a = c.args in fields_decided a.r a.number a.c c.reference-p.ensures c.span.ensures c.scale_of-level.ensures c.fields_at-f.ensures (sym c.above_31.ensures ∙ e) in decided_here) c.if-above_31.false
+    let decided : (b : Bool) → c.above_31.result ≡ b → let a = c.args in fields_at (cond b (coarser c.scale_of-level.result) c.scale_of-level.result) a.r a.number c.reference-p.result ≡ fields_of a.r a.number a.c = λ b e. let a = c.args in fields_decided a.r a.number a.c c.reference-p.ensures c.span.ensures c.scale_of-level.ensures c.fields_at-f.ensures (sym c.above_31.ensures ∙ e) in
+    c.fields_at-f.ensures ∙ decided _ c.if-above_31.false

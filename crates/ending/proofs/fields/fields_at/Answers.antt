@@ -7,19 +7,23 @@ use Rattle.ending.proofs.fields.fields_at.Goals as goal
 
 pub span_cells-requires : goal.span_cells-requires
 span_cells-requires c =
-    (let size_here : smallest_size ≤ c.size-s.result = cells_size c.requires c.size-s.ensures in size_here)
+    let size : smallest_size ≤ c.size-s.result = cells_size c.requires c.size-s.ensures in
+    size
 
 pub span_cells-requires-2 : goal.span_cells-requires-2
 span_cells-requires-2 c =
-    (let size_here : smallest_size ≤ c.size-s.result = cells_size c.requires c.size-s.ensures in size_here)
+    let size : smallest_size ≤ c.size-s.result = cells_size c.requires c.size-s.ensures in
+    size
 
 pub span_cells-requires-3 : goal.span_cells-requires-3
 span_cells-requires-3 c =
-    (let size_here : smallest_size ≤ c.size-s.result = cells_size c.requires c.size-s.ensures in size_here)
+    let size : smallest_size ≤ c.size-s.result = cells_size c.requires c.size-s.ensures in
+    size
 
 pub span_cells-requires-4 : goal.span_cells-requires-4
 span_cells-requires-4 c =
-    (let size_here : smallest_size ≤ c.size-s.result = cells_size c.requires c.size-s.ensures in size_here)
+    let size : smallest_size ≤ c.size-s.result = cells_size c.requires c.size-s.ensures in
+    size
 
 pub returns : goal.returns
 returns c =

@@ -11,11 +11,13 @@ use Rattle.ending.proofs.fields.span_cells.Goals as goal
 
 pub overflow_add-result-2 : goal.overflow_add-result-2
 overflow_add-result-2 c =
-    omega (arith, (let few_here : (c.apart-d.result + (c.args.s - 1)) / c.args.s ≤ 2 ^ 33 / smallest_size = cells_most c.args.s c.apart-d.result (search rules) (search rules) (search rules) in few_here))
+    let few : (c.apart-d.result + (c.args.s - 1)) / c.args.s ≤ 2 ^ 33 / smallest_size = cells_most c.args.s c.apart-d.result (search rules) (search rules) (search rules) in
+    omega (arith, few)
 
 pub overflow_cast-result-4 : goal.overflow_cast-result-4
 overflow_cast-result-4 c =
-    omega (arith, (let few_here : (c.apart-d.result + (c.args.s - 1)) / c.args.s ≤ 2 ^ 33 / smallest_size = cells_most c.args.s c.apart-d.result (search rules) (search rules) (search rules) in few_here))
+    let few : (c.apart-d.result + (c.args.s - 1)) / c.args.s ≤ 2 ^ 33 / smallest_size = cells_most c.args.s c.apart-d.result (search rules) (search rules) (search rules) in
+    omega (arith, few)
 
 pub returns : goal.returns
 returns c = ap (span_cells c.args.s) c.apart-d.ensures

@@ -13,7 +13,8 @@ loop-level-init c = scale_begin c.args.span
 
 pub overflow_mul-size : goal.overflow_mul-size
 overflow_mul-size c =
-    omega (arith, (let most_here : c.size.result ≤ degree = let l = c.loop-level in subst (λ (k : ℕ). k ≤ degree) (sym c.size.ensures) (size_most l.level l.invariant.is) in most_here))
+    let most : c.size.result ≤ degree = let l = c.loop-level in subst (λ (k : ℕ). k ≤ degree) (sym c.size.ensures) (size_most l.level l.invariant.is) in
+    omega (arith, most)
 
 pub returns-then-span-size : goal.returns-then-span-size
 returns-then-span-size c =

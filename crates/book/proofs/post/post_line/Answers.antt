@@ -1,0 +1,60 @@
+-- `book::post::post_line` meets its contract: a line that is too long, one that states a message, whose text stands in the line and whose
+-- change does what processing does, one that asks for the total, and one not of this form. Assumes nothing.
+use Rattle.std.proofs.Common.{ℕ, List, sym, ap, ◌∙◌}
+use borrow.Author.Rules.{part_to_end}
+use Rattle.entitlements.specs.Entitlements.{account_of, Done, processing}
+use Rattle.entry.specs.StatedLaws.{stated_message}
+use Rattle.change.specs.declared.Change.{Change}
+use Rattle.change.specs.Change.{makes}
+use Rattle.change.specs.ChangeLaws.{change_processing}
+use Rattle.book.specs.SaidLaws.{posting_long, posting_bad, posting_total, posting_message, leaves}
+use Rattle.book.proofs.post.post_line.Goals as goal
+
+pub returns-then-line-gt-LONGEST : goal.returns-then-line-gt-LONGEST
+returns-then-line-gt-LONGEST c =
+    let asked = c.args in
+    let account = account_of asked.high.now asked.low.now asked.active.now asked.last asked.total in
+    let long = c.if-line-gt-LONGEST.true in
+    let whole = leaves asked.number account asked.line.now (posting_long processing account asked.line.now long) c.refuse.ensures.step_value c.refuse.ensures.put in
+    record { steps_by = whole.0; put = whole.1 }
+
+pub slice_bounds-text-count : goal.slice_bounds-text-count
+slice_bounds-text-count c =
+    let line = c.args.line.now in
+    (stated_message line (sym c.message_of-stated.ensures ∙ c.in-Message.is)).within
+
+pub slice_bounds-text-count : goal.slice_bounds-text-count
+slice_bounds-text-count c = within
+
+pub slice_bounds-text-start : goal.slice_bounds-text-start
+slice_bounds-text-start c = within
+
+pub returns-in-Message : goal.returns-in-Message
+returns-in-Message c =
+    let asked = c.args in
+    let account = account_of asked.high.now asked.low.now asked.active.now asked.last asked.total in
+    let line = asked.line.now in
+    let short = c.if-line-gt-LONGEST.false in
+    let states = sym c.message_of-stated.ensures ∙ c.in-Message.is in
+    let did =
+    ap (λ (d : Change). makes d account) c.change_of-change.ensures
+    ∙ change_processing c.in-Message.kind account _ c.in-Message.message
+    ∙ ap (λ (text : List ℕ). processing c.in-Message.kind account text c.in-Message.message) (part_to_end line c.in-Message.start) in
+    rw (posting_message processing account line short states)
+    (ap (λ (d : Done). d.account) did, rw (← did) c.put_answer-put.ensures)
+
+pub returns-in-Total : goal.returns-in-Total
+returns-in-Total c =
+    let asked = c.args in
+    let account = account_of asked.high.now asked.low.now asked.active.now asked.last asked.total in
+    let total = sym c.message_of-stated.ensures ∙ c.in-Total.is in
+    let whole = leaves asked.number account asked.line.now (posting_total processing account asked.line.now c.if-line-gt-LONGEST.false total) c.tell.ensures.step_value c.tell.ensures.put in
+    record { steps_by = whole.0; put = whole.1 }
+
+pub returns-in-Bad : goal.returns-in-Bad
+returns-in-Bad c =
+    let asked = c.args in
+    let account = account_of asked.high.now asked.low.now asked.active.now asked.last asked.total in
+    let bad = sym c.message_of-stated.ensures ∙ c.in-Bad.is in
+    let whole = leaves asked.number account asked.line.now (posting_bad processing account asked.line.now c.if-line-gt-LONGEST.false bad) c.refuse-in-Bad.ensures.step_value c.refuse-in-Bad.ensures.put in
+    record { steps_by = whole.0; put = whole.1 }

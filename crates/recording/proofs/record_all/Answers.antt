@@ -1,0 +1,34 @@
+-- `recording::record_all` meets its contract. The loop's invariant is `Taking` twice, for the records and for what is told, whose laws are in
+-- output/specs/Replying.antt. Assumes nothing.
+use Rattle.std.proofs.Common.{◌-◌, refl, rules}
+use Rattle.lines.specs.Answers.{always}
+use Rattle.output.specs.Replying.{replying_begin, replying_step, replying_end}
+use Rattle.recording.specs.Recorded.{said, coming}
+use Rattle.recording.proofs.record_all.Goals as goal
+
+pub loop-i-init : goal.loop-i-init
+loop-i-init c =
+    let asked = c.args in
+    let start = coming asked.line asked.room.now in (
+      refl,
+      refl,
+      refl,
+      replying_begin (always said) start asked.bytes.now asked.out.now,
+      replying_begin (always said) start asked.bytes.now asked.told.now,
+    )
+
+pub loop-i-preserved : goal.loop-i-preserved
+loop-i-preserved c =
+    let here = c.loop-i in (
+      search rules,
+      search rules,
+      search rules,
+      replying_step here.invariant.3 (search rules) c.take_byte-recorded.ensures.room_after c.take_byte-recorded.ensures.put,
+      replying_step here.invariant.4 (search rules) c.take_byte-recorded.ensures.room_after c.take_byte-recorded.ensures.put_2,
+    )
+
+pub returns : goal.returns
+returns c =
+    let page = replying_end c.loop-i.invariant.3 (search rules) in
+    let tells = replying_end c.loop-i.invariant.4 (search rules) in
+    record { room_after = page.0; put = page.1; put_2 = tells.1 }

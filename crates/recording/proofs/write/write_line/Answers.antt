@@ -1,0 +1,54 @@
+-- `recording::write::write_line` meets its contract: a line that is too long, one that states no message, and one that states a message,
+-- whose text stands in the line. Assumes nothing.
+-- a line that states no message is refused 9
+-- the text starts within the line
+use Rattle.std.proofs.Common.{◌≡◌, ℕ, ◌≤◌, List, [], ◌∷◌, length, sym, ◌∙◌}
+use types.Run.{OneOf, miss}
+use denote.Enum.Declared.{tag_of}
+use borrow.Author.Rules.{part_to_end}
+use Rattle.lines.specs.Lines.{refused, longest}
+use Rattle.entry.specs.declared.Stated.{Stated}
+use Rattle.entry.specs.declared.Stated.TheVariants.{Message, Total, Bad}
+use Rattle.entry.specs.contracts.Stated.{the_type}
+use Rattle.entry.specs.Stated.{stated_of}
+use Rattle.entry.specs.StatedLaws.{stated_message}
+use Rattle.recording.specs.Recorded.{said}
+use Rattle.recording.specs.RecordedLaws.{said_long, said_bad, said_total, said_message, refuses}
+use Rattle.recording.proofs.write.write_line.Goals as goal
+
+none : (line : List ℕ) → length line ≤ longest → (s : Stated) → OneOf (1 ∷ 2 ∷ []) (tag_of the_type s) → s ≡ stated_of line → said line ≡ refused 9 0
+none line h (Message kind number at) k e = absurd (miss (1 ∷ 2 ∷ []) 0 tt k)
+none line h Total k e = said_total line h (sym e)
+none line h Bad k e = said_bad line h (sym e)
+
+pub returns-then-line-gt-LONGEST : goal.returns-then-line-gt-LONGEST
+returns-then-line-gt-LONGEST c =
+    let asked = c.args in
+    let whole = refuses asked.number (said_long asked.line.now c.if-line-gt-LONGEST.true) c.refuse.ensures.put_value c.refuse.ensures.put in
+    record { put = whole.0; put_2 = whole.1 }
+
+pub returns-in_default : goal.returns-in_default
+returns-in_default c =
+    let asked = c.args in
+    let stated = c.message_of-stated in
+    let whole = refuses asked.number (none asked.line.now c.if-line-gt-LONGEST.false stated.result c.in_default.keys2 stated.ensures) c.refuse-in_default.ensures.put_value c.refuse-in_default.ensures.put in
+    record { put = whole.0; put_2 = whole.1 }
+
+pub slice_bounds-write_message-count : goal.slice_bounds-write_message-count
+slice_bounds-write_message-count c =
+    let line = c.args.line.now in
+    (stated_message line (sym c.message_of-stated.ensures ∙ c.in-Message.is)).within
+
+pub slice_bounds-write_message-count : goal.slice_bounds-write_message-count
+slice_bounds-write_message-count c = within
+
+pub slice_bounds-write_message-start : goal.slice_bounds-write_message-start
+slice_bounds-write_message-start c = within
+
+pub returns : goal.returns
+returns c =
+    let asked = c.args in
+    let states = sym c.message_of-stated.ensures ∙ c.in-Message.is in
+    let text = part_to_end asked.line.now c.in-Message.start in
+    let said = said_message asked.line.now c.if-line-gt-LONGEST.false states in
+    rw (said, ← text) (c.write_message.ensures.put, c.write_message.ensures.put_2)
