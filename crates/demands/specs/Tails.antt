@@ -18,7 +18,7 @@ use Rattle.chosen.specs.ChosenLaws.{choose_none}
 use Rattle.unit.specs.declared.Kind.{Kind}
 use Rattle.unit.specs.Extents.{extremes_of}
 use Rattle.unit.specs.Unit.{fields_of, chosen_cell, cell_check, corner_checks, code_checks, coding}
-use Rattle.unit.specs.CheckLaws.{entered, first_accepts}
+use Rattle.unit.specs.CheckLaws.{Grounded, entered, first_accepts}
 use Rattle.unit.specs.TailsLaws.{Fits}
 use Rattle.unit.specs.Cover.{fields_good}
 use Rattle.demands.specs.Coded.{Checked, over}
@@ -46,7 +46,8 @@ module _ (room numbers : List ℕ) (kind : Kind) (number : ℕ) where
   fits pass c is t =
       let h = entered (length room) numbers kind number pass in
       let good : Good (fields_of (extremes_of (corners_of numbers)) number c) =
-      fields_good (record { ground = h.ground; most = h.most; cell = is; within = true_of (inside (boundary_of numbers) c) t }) in
+      let ground : Grounded (corners_of numbers) = h.ground in
+      fields_good (record { ground = ground; most = h.most; cell = is; within = true_of (inside (boundary_of numbers) c) t }) in
       record {
         least = good.scale.0;
         most = good.scale.1;

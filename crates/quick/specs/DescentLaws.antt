@@ -146,7 +146,7 @@ module _ {es : List Edge} {room : List ℕ} {half : Half} {s : Sought} {left : �
     same_lon = omega (arith, b.even, b.coarsest)
 
     -- The descent that goes on by longitude
-    lat_on : {later : List ℕ} {h : Half} {now : Choice} → Sound es later h → Ground (s.finest - left / 2 + 1) (s.finest - left / 2) h.ground
+    lat_on : {later : List ℕ} {h : Half} {now : Choice} → Sound es later h → (ground : Ground (s.finest - left / 2 + 1) (s.finest - left / 2) h.ground)
         → Past now h.ground → ByLon es later h s (left - 1) now
     lat_on {later} {h} sound g past =
         record {

@@ -59,6 +59,7 @@ module _ {es : List Edge} {from : ℕ} where
 gained_within : (es : List Edge) (from finest : ℕ) (r s : Rectangle) (found answer : Choice) → Within r s → Gained es from finest r found answer
     → Gained es from finest s found answer
 gained_within es from finest r s found (At c) h g = (wanted_within h g.0, g.1)
+gained_within es from finest r s found Nowhere h g = elim g [ ]
 
 module _ {es : List Edge} {from finest : ℕ} where
   -- What was found stays where no wanted cell comes before it
@@ -85,6 +86,8 @@ module _ {es : List Edge} {from finest : ℕ} where
     where
       gained : (a b : Choice) → Gained es from finest p found a → Gained es from finest q a b → Gained es from finest r found b
       gained (At c) (At d) j k = (wanted_within hq k.0, ahead_then found d c k.1 j.1)
+      gained (At c) Nowhere j k = elim k [ ]
+      gained Nowhere _ j k = elim j [ ]
 
       origin : (a b : Choice) → (a ≡ found) ⊎ Gained es from finest p found a → (b ≡ a) ⊎ Gained es from finest q a b
           → (b ≡ found) ⊎ Gained es from finest r found b
@@ -97,6 +100,7 @@ module _ {es : List Edge} {from finest : ℕ} where
       ahead : (a b : Choice) (d : Cell) → (b ≡ a) ⊎ Gained es from finest q a b → Ahead d b → Ahead d a
       ahead a b d (inl k) h = subst (Ahead d) k h
       ahead a (At e) d (inr k) h = ahead_then a d e h k.1
+      ahead a Nowhere d (inr k) h = elim k [ ]
 
       none : (d : Cell) → Wanted es from finest r d → Ahead d b → (Within (sides_of d) p) ⊎ (Within (sides_of d) q) → ⊥
       none d w h (inl l) = f.none d (wanted_part w l) (ahead a b d g.origin h)
@@ -121,6 +125,7 @@ module _ {es : List Edge} {from finest : ℕ} where
         record { cell = g.0.cell; least = omega (arith, g.0.least); most = g.0.most; is = g.0.is; lies = g.0.lies },
         g.1,
       )
+      by Nowhere (inr g) = elim g [ ]
 
   -- A wanted cell of the coarsest level with the ground's own south-west corner is the answer, where it comes before what was found
   pub first_corner : {r : Rectangle} {found : Choice} {c : Cell} → Wanted es from finest r c → c.level ≡ from → c.west.0 ≡ r.west.0
@@ -144,6 +149,7 @@ module _ {es : List Edge} {from finest : ℕ} where
       by answer apart (inl e) = subst (λ (x : Choice). Past x q) (sym e) past
       by (At c) (inl h) (inr g) = inr (omega (arith, (cell_wide c g.0.cell.level).up, g.0.lies.north))
       by (At c) (inr h) (inr g) = inl (omega (arith, (cell_wide c g.0.cell.level).across, g.0.lies.east))
+      by Nowhere apart (inr g) = elim g [ ]
 
 -- Ground that is past what is found is so in each part
 pub past_within : (found : Choice) (r s : Rectangle) → Within r s → Past found s → Past found r

@@ -65,8 +65,8 @@ pub record Sound (es : List Edge) (room : List ℕ) (h : Half) : Type 0 where
   pub odd : h.odd ≡ point_inside h.corner es
 
 -- A half with part of its ground and another first edge
-abbrev pub narrowed : Half → Rectangle → ℕ → Half
-narrowed h part first = record { ground = part; corner = h.corner; odd = h.odd; east = h.east; from = h.from; first = first; to = h.to }
+abbrev pub narrowed : Half → (ground : Rectangle) → ℕ → Half
+narrowed h ground first = record { ground = ground; corner = h.corner; odd = h.odd; east = h.east; from = h.from; first = first; to = h.to }
 
 -- with part of its ground alone
 abbrev pub part_of : Half → Rectangle → Half

@@ -340,7 +340,7 @@ module _ {es : List Edge} {room : List ℕ} {h : Half} (s : Sound es room h) whe
   pub sound_sorted : {later : List ℕ} {corner : Point} {odd : Bool} {place end : ℕ} → corner ≡ south_west h.ground → odd ≡ point_inside corner es
       → MetFirst room h.ground h.first h.to place → kept_in later h.to end ≡ meeting h.ground (kept_in room place h.to)
       → (h.to ≤ end) × (4 * end ≤ length later)
-      → Sound es later (record { ground = h.ground; corner = corner; odd = odd; east = h.ground.east; from = h.to; first = h.to; to = end })
+      → Sound es later (let ground : Rectangle = h.ground in record { ground = ground; corner = corner; odd = odd; east = h.ground.east; from = h.to; first = h.to; to = end })
   sound_sorted {later} {corner} {odd} {place} {end} is count m kept fits =
       let own : Keeps es h.ground (kept_in later h.to end) =
       subst (Keeps es h.ground) (sym kept) (keeps_meeting (kept_in room place h.to) (keeps_met s m)) in

@@ -90,9 +90,9 @@ pub two_each : {finest top : ℕ} → Levels finest top → finest - 2 * (finest
 two_each l = omega (arith, l.below)
 
 -- The half that a descent starts from: all edges, and a corner of the extents that every corner is at or below
-abbrev pub top_half : ℕ → Rectangle → Rectangle → Half
-top_half count r cell =
-    record { ground = cell; corner = at r.north r.west; odd = false; east = lon (lon_end + 1); from = 0; first = 0; to = count }
+abbrev pub top_half : ℕ → Rectangle → (ground : Rectangle) → Half
+top_half count r ground =
+    record { ground = ground; corner = at r.north r.west; odd = false; east = lon (lon_end + 1); from = 0; first = 0; to = count }
 
 module _ {es : List Edge} {room : List ℕ} {count : ℕ} (all : AllIn es room count) {s : Sought} (seeks : Seeks es s) {top : ℕ} (l : IsLevel top)
     {cell : Rectangle} (g : Ground top top cell) where

@@ -78,7 +78,7 @@ fn in_cell(
     requires all_in { AllIn (boundary_of numbers.now) room.old count }
     requires seeks { Seeks (boundary_of numbers.now) sought }
     requires levels { Levels sought.finest top }
-    requires ground { Ground top top cell }
+    requires halved { Ground top top cell }
     requires past { Past found cell }
     ensures first { First (boundary_of numbers.now) top sought.finest cell found result }
     ensures all_in_2 { AllIn (boundary_of numbers.now) room.new count }

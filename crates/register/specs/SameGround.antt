@@ -31,8 +31,8 @@ same_reply one other e k = rw (sym e) (pick (one.said.number == 0))
 pub lines_same : (letter number : ℕ) (one other : List ℕ) → Counted (replicate 20 0) one → Counted (replicate 20 0) other
     → SameGround (corners_of one) (corners_of other) → SameReply (code_said letter number one) (code_said letter number other)
 unfolding code_said
-lines_same letter number one other h k ground =
-    let same = coding_same h k ground (kind_of letter) number in
+lines_same letter number one other h k same_ground =
+    let same = coding_same h k same_ground (kind_of letter) number in
     same_reply
     (coding (replicate 20 0) one (kind_of letter) number)
     (coding (replicate 20 0) other (kind_of letter) number)

@@ -26,14 +26,13 @@ loop-i-preserved-then-byte-eq10 c =
     let less = c.loop-i-test.true in
     let feed = c.if-byte-eq10.true in
     let fed = byte_feed (posting processing) (comes here.number here.len account here.room) _ feed in
-    let posted = c.post_held-posted in
-    let step = posted.result.step in
+    let step = c.post_held-posted.result.step in
     let left =
     c.put_step.ensures
     ∙ stepped_last step here.high here.low here.active step.last step.total here.last here.total
-    ∙ posted.ensures.0 in
-    let on = ap₂ (λ (n : ℕ) (a : Account). comes n 0 a here.room) c.wrapping_add_u64-number.ensures left ∙ sym fed.0 in
-    (search rules, search rules, replying_step here.invariant.2 less on (rw fed.1 posted.ensures.1))
+    ∙ c.post_held-posted.ensures.steps_by in
+    let on = ap₂ (λ (n : ℕ) (a : Account). comes n 0 a here.room) c.wrapping_add_u64-number.ensures.value left ∙ sym fed.0 in
+    (search rules, search rules, replying_step here.invariant.2 less on (rw fed.1 c.post_held-posted.ensures.put))
 
 pub loop-i-preserved : goal.loop-i-preserved
 loop-i-preserved c =

@@ -8,12 +8,12 @@ use Rattle.book.proofs.reply_last.Goals as goal
 pub returns-then-line-eq0 : goal.returns-then-line-eq0
 returns-then-line-eq0 c =
     let asked = c.args in
-    let comes = coming asked.line asked.t2 asked.room.now in
+    let comes = coming asked.line asked.account asked.room.now in
     rw (last_none (posting processing) comes c.if-line-eq0.true) (put_nothing asked.out.now 0)
 
 pub returns : goal.returns
 returns c =
     let asked = c.args in
-    let comes = coming asked.line asked.t2 asked.room.now in
+    let comes = coming asked.line asked.account asked.room.now in
     let some = last_some (posting processing) comes c.if-line-eq0.false in
     rw some c.post_held-posted.ensures.put

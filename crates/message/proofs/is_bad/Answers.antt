@@ -16,14 +16,12 @@ pub returns-then-code_place-i : goal.returns-then-code_place-i
 returns-then-code_place-i c =
     let asked = c.args in
     let active = ne_eqb (get_or asked.active.now asked.i 0) 0 c.if-active-i-eq0.false in
-    let place = c.code_place in
-    let twice = ap (λ (p : ℕ). ltb p asked.i) (sym place.ensures) ∙ lt-ltb place.result asked.i c.if-code_place-i.true in
+    let twice = ap (λ (p : ℕ). ltb p asked.i) (sym c.code_place.ensures) ∙ lt-ltb c.code_place.result asked.i c.if-code_place-i.true in
     rw (active, twice)
 
 pub returns : goal.returns
 returns c =
     let asked = c.args in
     let active = ne_eqb (get_or asked.active.now asked.i 0) 0 c.if-active-i-eq0.false in
-    let place = c.code_place in
-    let once = ap (λ (p : ℕ). ltb p asked.i) (sym place.ensures) ∙ le-ltb place.result asked.i c.if-code_place-i.false in
+    let once = ap (λ (p : ℕ). ltb p asked.i) (sym c.code_place.ensures) ∙ le-ltb c.code_place.result asked.i c.if-code_place-i.false in
     rw (active, once) (ap not c.is_code.ensures)

@@ -12,15 +12,14 @@ pub returns-then-no_account : goal.returns-then-no_account
 returns-then-no_account c =
     let asked = c.args in
     let refused = sym c.no_account.ensures ∙ c.if-no_account.true in
-    sym (message_refused asked.kind asked.t2 asked.text.now asked.number refused)
+    sym (message_refused asked.kind asked.account asked.text.now asked.number refused)
 
 pub returns : goal.returns
 returns c =
     let asked = c.args in
-    let change = c.change_of-change in
     let checked = sym c.no_account.ensures
     ∙ c.if-no_account.false in
-    ap (λ (account : Account). done (says change.result.answer) account) c.stepped.ensures
-    ∙ ap (λ (made : Change). makes made asked.t2) change.ensures
-    ∙ change_processing asked.kind asked.t2 asked.text.now asked.number
-    ∙ sym (message_accepted asked.kind asked.t2 asked.text.now asked.number checked)
+    ap (λ (account : Account). done (says c.change_of-change.result.answer) account) c.stepped.ensures
+    ∙ ap (λ (made : Change). makes made asked.account) c.change_of-change.ensures
+    ∙ change_processing asked.kind asked.account asked.text.now asked.number
+    ∙ sym (message_accepted asked.kind asked.account asked.text.now asked.number checked)

@@ -10,8 +10,7 @@ returns c =
     let asked = c.args in
     let page = asked.page.now in
     let offset = asked.offset in
-    let slot = c.slot_of-slot in
-    let same : slot.result ≡ slot_at page offset = slot.ensures.0 ∙ ap slot_of c.text_at.ensures in
+    let same : c.slot_of-slot.result ≡ slot_at page offset = c.slot_of-slot.ensures.value ∙ ap slot_of c.text_at.ensures in
     c.look_by.ensures
-    ∙ ap (λ (t : List ℕ). look_with (code_by t (halves_by (get_or asked.high.now slot.result 0) (get_or asked.low.now slot.result 0))) page offset) c.earlier_at-earlier.ensures
+    ∙ ap (λ (t : List ℕ). look_with (code_by t (halves_by (get_or asked.high.now c.slot_of-slot.result 0) (get_or asked.low.now c.slot_of-slot.result 0))) page offset) c.earlier_at-earlier.ensures
     ∙ ap (λ (s : ℕ). look_with (code_by (earlier_at page (get_or asked.records.now s 0)) (halves_by (get_or asked.high.now s 0) (get_or asked.low.now s 0))) page offset) same

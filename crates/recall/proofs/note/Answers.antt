@@ -6,5 +6,4 @@ use Rattle.recall.proofs.note.Goals as goal
 pub returns : goal.returns
 returns c =
     let asked = c.args in
-    let slot = c.slot_of-slot in
-    let same : slot.result ≡ slot_at asked.page.now asked.offset = slot.ensures.0 ∙ ap slot_of c.text_at.ensures in record { records_after = ap₂ (set asked.records.now) same c.wrapping_add_u64.ensures; high_after = ap (λ (s : ℕ). set asked.high.now s asked.code.high) same; low_after = ap (λ (s : ℕ). set asked.low.now s asked.code.low) same }
+    let same : c.slot_of-slot.result ≡ slot_at asked.page.now asked.offset = c.slot_of-slot.ensures.value ∙ ap slot_of c.text_at.ensures in record { records_after = ap₂ (set asked.records.now) same c.wrapping_add_u64.ensures.value; high_after = ap (λ (s : ℕ). set asked.high.now s asked.code.high) same; low_after = ap (λ (s : ℕ). set asked.low.now s asked.code.low) same }

@@ -6,7 +6,7 @@ pub returns-then-room-len : goal.returns-then-room-len
 returns-then-room-len c =
     let asked = c.args in
     let all = take_all asked.line.len asked.room.now (omega (arith, c.if-room-len.true)) in
-    rw all (c.post_line.ensures.steps_by, c.post_line.ensures.put)
+    rw all (record { steps_by = c.post_line.ensures.steps_by; put = c.post_line.ensures.put })
 
 pub slice_bounds-post_line-end : goal.slice_bounds-post_line-end
 slice_bounds-post_line-end c =

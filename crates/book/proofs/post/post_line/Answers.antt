@@ -23,11 +23,10 @@ slice_bounds-text-count c =
     let line = c.args.line.now in
     (stated_message line (sym c.message_of-stated.ensures ∙ c.in-Message.is)).within
 
-pub slice_bounds-text-count : goal.slice_bounds-text-count
-slice_bounds-text-count c = within
-
 pub slice_bounds-text-start : goal.slice_bounds-text-start
-slice_bounds-text-start c = within
+slice_bounds-text-start c =
+    let line = c.args.line.now in
+    (stated_message line (sym c.message_of-stated.ensures ∙ c.in-Message.is)).within
 
 pub returns-in-Message : goal.returns-in-Message
 returns-in-Message c =
@@ -41,7 +40,7 @@ returns-in-Message c =
     ∙ change_processing c.in-Message.kind account _ c.in-Message.message
     ∙ ap (λ (text : List ℕ). processing c.in-Message.kind account text c.in-Message.message) (part_to_end line c.in-Message.start) in
     rw (posting_message processing account line short states)
-    (ap (λ (d : Done). d.account) did, rw (← did) c.put_answer-put.ensures)
+    (record { steps_by = ap (λ (d : Done). d.account) did; put = rw (← did) c.put_answer-put.ensures })
 
 pub returns-in-Total : goal.returns-in-Total
 returns-in-Total c =
