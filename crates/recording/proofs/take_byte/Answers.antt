@@ -9,7 +9,7 @@ pub returns-then-byte-eq10 : goal.returns-then-byte-eq10
 returns-then-byte-eq10 c =
     let asked = c.args in
     let fed = byte_feed (always said) (coming asked.recorded.line asked.room.now) asked.byte c.if-byte-eq10.true in
-    record { room_after = rw (fed.0, c.wrapping_add_u64-number.ensures); put = rw (fed.1 as_record) c.write_held-ends.ensures.put; put_2 = rw (fed.1 as_told) c.write_held-ends.ensures.put_2 }
+    record { room_after = rw (fed.0, c.wrapping_add_u64-number.ensures.value); put = rw (fed.1 as_record) c.write_held-ends.ensures.put; put_2 = rw (fed.1 as_told) c.write_held-ends.ensures.put_2 }
 
 pub returns : goal.returns
 returns c =

@@ -6,7 +6,7 @@ pub returns-then-room-len : goal.returns-then-room-len
 returns-then-room-len c =
     let asked = c.args in
     let all = take_all asked.line.len asked.room.now (omega (arith, c.if-room-len.true)) in
-    rw all (c.write_line.ensures.put, c.write_line.ensures.put_2)
+    rw all (record { put = c.write_line.ensures.put; put_2 = c.write_line.ensures.put_2 })
 
 pub slice_bounds-write_line-end : goal.slice_bounds-write_line-end
 slice_bounds-write_line-end c =

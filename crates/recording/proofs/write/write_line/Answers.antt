@@ -1,7 +1,5 @@
 -- `recording::write::write_line` meets its contract: a line that is too long, one that states no message, and one that states a message,
 -- whose text stands in the line. Assumes nothing.
--- a line that states no message is refused 9
--- the text starts within the line
 use Rattle.std.proofs.Common.{◌≡◌, ℕ, ◌≤◌, List, [], ◌∷◌, length, sym, ◌∙◌}
 use types.Run.{OneOf, miss}
 use denote.Enum.Declared.{tag_of}
@@ -30,8 +28,7 @@ returns-then-line-gt-LONGEST c =
 pub returns-in_default : goal.returns-in_default
 returns-in_default c =
     let asked = c.args in
-    let stated = c.message_of-stated in
-    let whole = refuses asked.number (none asked.line.now c.if-line-gt-LONGEST.false stated.result c.in_default.keys2 stated.ensures) c.refuse-in_default.ensures.put_value c.refuse-in_default.ensures.put in
+    let whole = refuses asked.number (none asked.line.now c.if-line-gt-LONGEST.false c.message_of-stated.result c.in_default.keys2 c.message_of-stated.ensures) c.refuse-in_default.ensures.put_value c.refuse-in_default.ensures.put in
     record { put = whole.0; put_2 = whole.1 }
 
 pub slice_bounds-write_message-count : goal.slice_bounds-write_message-count
@@ -51,4 +48,4 @@ returns c =
     let states = sym c.message_of-stated.ensures ∙ c.in-Message.is in
     let text = part_to_end asked.line.now c.in-Message.start in
     let said = said_message asked.line.now c.if-line-gt-LONGEST.false states in
-    rw (said, ← text) (c.write_message.ensures.put, c.write_message.ensures.put_2)
+    rw (said, ← text) (record { put = c.write_message.ensures.put; put_2 = c.write_message.ensures.put_2 })

@@ -1,0 +1,11 @@
+-- `account::run` is safe and ends. The loop's invariant: the three buffers keep their lengths. The measure is the number of reads that
+-- are left. The output has room for the replies to what a read brought. Assumes nothing.
+use mathlib.Core.Path.{◌≡◌}
+use lib.ListN.{length}
+use Rattle.account.proofs.run.Given as goal
+
+abbrev pub invariant-loop-reads : goal.invariant-loop-reads
+invariant-loop-reads l = (length l.input ≡ length l.rt) × (length l.room ≡ length l.initial.input) × (length l.output ≡ length l.initial.room)
+
+abbrev pub decreases-loop-reads : goal.decreases-loop-reads
+decreases-loop-reads l = l.reads
