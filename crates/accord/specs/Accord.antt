@@ -22,8 +22,9 @@ use Rattle.replaying.specs.ReplayLaws.{counts_by}
 use Rattle.replaying.specs.Whole.{Recordable, records_of, pages_replayed}
 use Rattle.lines.specs.Lines.{refused, longest, lines_of}
 use Rattle.lines.specs.Messages.{Message as Form, message as stating, asks_total, not_of_this_form, message_of}
-use Rattle.lines.specs.Answers.{replies_by, output_by, state_from, always}
-use Rattle.lines.specs.Automaton.{first, after as read, final, together, listed_by}
+use Rattle.lines.specs.Answers.{state_from, always}
+use Rattle.lines.specs.Automaton.{first, after as read, final, together}
+use Rattle.lines.specs.Putting.{replies_by, output_by, listed_by}
 use Rattle.book.specs.Said.{posting}
 use Rattle.book.specs.Whole.{whole_account}
 use Rattle.book.specs.Kept.{message_in, message_on, messages_of, lines_after}

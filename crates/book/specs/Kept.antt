@@ -6,7 +6,7 @@ use Rattle.std.proofs.Common.{arith, ◌∙◌}
 use Rattle.std.proofs.Math.Path.{refl, ap, ap₂, sym}
 use Rattle.facts.specs.Texts.{bytes, same_text}
 use Rattle.entitlements.specs.declared.Account.{Account}
-use Rattle.entitlements.specs.Entitlements.{empty, Answering, kind_of, processing, message}
+use Rattle.entitlements.specs.Entitlements.{empty, Answering, processing, message}
 use Rattle.entitlements.specs.Outcomes.{Spoken, in_words_lem, by_number, message_spoken}
 use Rattle.history.specs.History.{Message, after, sent, one, times, Kept}
 use Rattle.history.specs.HistoryLaws.{after_append, sent_append, times_append, kept}
@@ -15,6 +15,7 @@ use Rattle.lines.specs.Messages.{Message as Form, message as stating, asks_total
 use Rattle.lines.specs.Answers.{Served, said_from, state_from}
 use Rattle.lines.specs.Automaton.{first, final, together, after as read}
 use Rattle.places.specs.Places.{count_active}
+use Rattle.entry.specs.Stated.{kind_of}
 use Rattle.entry.specs.StatedLaws.{stated_asks}
 use Rattle.book.specs.Said.{reply_of, total_said, answered, form_posted, posting}
 use Rattle.book.specs.SaidLaws.{posting_total}

@@ -3,7 +3,7 @@
 use Rattle.std.specs.Prelude.{◌≡◌, ℕ, cond, List, ◌++◌, length, ◌==◌, nat_lt}
 use Rattle.entitlements.specs.declared.Account.{Account}
 use Rattle.entitlements.specs.declared.Kind.{Kind}
-use Rattle.entitlements.specs.Entitlements.{total_of, Answering, Done, kind_of, processing}
+use Rattle.entitlements.specs.Entitlements.{total_of, Answering, Done, processing}
 use Rattle.change.specs.declared.Step.{Step}
 use Rattle.change.specs.Change.{stepped}
 use Rattle.facts.specs.Texts.{bytes}
@@ -11,6 +11,7 @@ use Rattle.lines.specs.Lines.{Reply, decimal, coded, refused, reply_line, longes
 use Rattle.lines.specs.Messages.{Message, message, asks_total, not_of_this_form, message_of}
 use Rattle.lines.specs.Answers.{Served, Serving}
 use Rattle.lines.specs.Automaton.{Coming}
+use Rattle.entry.specs.Stated.{kind_of}
 use Rattle.book.specs.declared.Line.{Line}
 
 -- "`activated`, `already`, `cancelled`, `not active`, `old`, or `refused`, number and place"

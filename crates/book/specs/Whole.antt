@@ -4,7 +4,7 @@ use Rattle.std.specs.Prelude.{◌≡◌, ℕ, ◌+◌, ◌^◌, ◌<◌, Bool, t
 use Rattle.std.proofs.Common.{arith, ap, sym, ◌∙◌, length-append}
 use Rattle.facts.specs.Texts.{bytes}
 use Rattle.entitlements.specs.declared.Account.{Account}
-use Rattle.entitlements.specs.Entitlements.{empty, Answering, kind_of, processing, message}
+use Rattle.entitlements.specs.Entitlements.{empty, Answering, processing, message}
 use Rattle.entitlements.specs.Sound.{Sound, empty_sound, message_processing}
 use Rattle.entitlements.specs.Outcomes.{Spoken, in_words_lem, by_number, processing_sound, processing_spoken}
 use Rattle.lines.specs.Lines.{refused, decimal, longest, lines_of}
@@ -14,6 +14,7 @@ use Rattle.lines.specs.AnswersLaws.{ByFirst, long_first, output_agree, state_agr
 use Rattle.lines.specs.Automaton.{first, after, final, together, listed}
 use Rattle.lines.specs.AutomatonLaws.{listed_output, final_state}
 use Rattle.lines.specs.ReplyLaws.{Short, spelling_short, refusal_short}
+use Rattle.entry.specs.Stated.{kind_of}
 use Rattle.book.specs.Said.{Doing, reply_of, total_said, answered, posted, form_posted, posting}
 use Rattle.book.specs.SaidLaws.{posting_long}
 

@@ -1,11 +1,21 @@
 -- The message of a line as a caller gets it: its kind, its number, and where in the line its text starts; or that it asks for the total.
 -- Assumes nothing.
-use Rattle.std.specs.Prelude.{ℕ, ◌-◌, List, length, drop}
+use Rattle.std.specs.Prelude.{ℕ, ◌-◌, cond, List, length, drop, eqb}
+use Prim.Native.Char.{code}
 use Rattle.lines.specs.Messages.{Message as Form, message, asks_total, not_of_this_form, part, numbered, message_of}
 use Rattle.entitlements.specs.declared.Kind.{Kind}
-use Rattle.entitlements.specs.Entitlements.{letter_of, kind_of}
+use Rattle.entitlements.specs.declared.Kind.TheVariants.{Activate, Cancel}
 use Rattle.entry.specs.declared.Stated.{Stated}
 use Rattle.entry.specs.declared.Stated.TheVariants.{Message, Total, Bad}
+
+-- `A` or `C`: activate, cancel
+abbrev pub letter_of : Kind → ℕ
+letter_of Activate = code "A"
+letter_of Cancel = code "C"
+
+-- the kind by its letter
+abbrev pub kind_of : ℕ → Kind
+kind_of letter = cond (eqb letter (code "A")) Activate Cancel
 
 -- a message by its kind, its number and where its text starts, which is "the rest of the line"
 abbrev pub stated_by : List ℕ → Form → Stated

@@ -11,11 +11,15 @@ use Rattle.numbers.specs.MessageLaws.{message_missed, message_ends, message_foun
 use Rattle.numbers.specs.declared.Long.TheVariants.{At, Bad as Bad·l}
 use Rattle.entitlements.specs.declared.Kind.{Kind}
 use Rattle.entitlements.specs.declared.Kind.TheVariants.{Activate, Cancel}
-use Rattle.entitlements.specs.Entitlements.{letter_of, kind_of, kind_letter}
 use Rattle.entry.specs.declared.Stated.TheVariants.{Message, Total, Bad}
-use Rattle.entry.specs.Stated.{stated_by, stated_of, stated_after}
+use Rattle.entry.specs.Stated.{letter_of, kind_of, stated_by, stated_of, stated_after}
 
 -- ---- a line after the letter of a kind and a space
+
+-- a kind is known by its letter
+kind_letter : (kind : Kind) → kind_of (letter_of kind) ≡ kind
+kind_letter Activate = refl
+kind_letter Cancel = refl
 
 -- at a word that is no number, at a number that ends the line, at a number before a space and the text
 module _ (kind : Kind) (line : List ℕ) where

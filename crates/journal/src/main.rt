@@ -10,7 +10,8 @@ ghost use Rattle.std.specs.Prelude.{◌*◌, ◌≤◌, ◌<◌, ◌≡◌, leng
 ghost use Rattle.page.specs.Page.{record_length};
 ghost use Rattle.lines.specs.Lines.{longest};
 ghost use Rattle.lines.specs.Answers.{always};
-ghost use Rattle.lines.specs.Automaton.{after, ended_by, last_by};
+ghost use Rattle.lines.specs.Automaton.{after};
+ghost use Rattle.lines.specs.Putting.{ended_by, last_by};
 ghost use Rattle.lines.specs.ReplyLaws.{reply_most};
 ghost use Rattle.output.specs.Written.{Starts};
 ghost use Rattle.recording.specs.Recorded.{said, as_record, as_told, coming};

@@ -6,48 +6,44 @@ use Rattle.std.proofs.Math.Path.{refl, ap}
 use mathlib.Core.List.{List, [], ◌∷◌, ◌++◌}
 use Rattle.facts.specs.Numbers.{either_way}
 use Rattle.lines.specs.Lines.{Reply, reply_line, replies, lines_of, output_of}
-use Rattle.lines.specs.Answers.{Served, Serving, Putting, replies_by, said_from, numbered_by, state_from, output_by, output_from, always}
+use Rattle.lines.specs.Answers.{Served, Serving, replies_from, said_from, numbered_from, state_from, output_from, always}
 
 -- what is said of a line whatever came before it: the replies are the page's
 module _ (said : List ℕ → Reply) where
-  replies_always : (number : ℕ) (lines : List (List ℕ)) → replies_by reply_line (always said) tt number lines ≡ replies said number lines
-  unfolding replies_by replies
+  replies_always : (number : ℕ) (lines : List (List ℕ)) → replies_from (always said) tt number lines ≡ replies said number lines
+  unfolding replies_from replies
   replies_always number [] = refl
   replies_always number (line ∷ lines) = ap (λ (t : List ℕ). reply_line number (said line) ++ t) (replies_always (number + 1) lines)
 
   pub output_always : (input : List ℕ) → output_from (always said) tt input ≡ output_of said input
-  unfolding output_by output_of
+  unfolding output_from output_of
   output_always input = replies_always 1 (lines_of input)
 
--- what is written for lines is written for what is said of them, line by line
-module _ {S : Type 0} (put : Putting) (says : Serving S) where
-  replies_numbered : (s : S) (number : ℕ) (lines : List (List ℕ))
-      → replies_by put says s number lines ≡ numbered_by put number (said_from says s lines)
-  unfolding replies_by said_from numbered_by
+-- the replies to lines are what is said of them, line by line
+module _ {S : Type 0} (says : Serving S) where
+  replies_numbered : (s : S) (number : ℕ) (lines : List (List ℕ)) → replies_from says s number lines ≡ numbered_from number (said_from says s lines)
+  unfolding replies_from said_from numbered_from
   replies_numbered s number [] = refl
   replies_numbered s number (line ∷ lines) =
-      ap (λ (t : List ℕ). put number (says s line).reply ++ t) (replies_numbered (says s line).state (number + 1) lines)
+      ap (λ (t : List ℕ). reply_line number (says s line).reply ++ t) (replies_numbered (says s line).state (number + 1) lines)
 
-  pub output_numbered : (s : S) (input : List ℕ) → output_by put says s input ≡ numbered_by put 1 (said_from says s (lines_of input))
-  unfolding output_by
+  pub output_numbered : (s : S) (input : List ℕ) → output_from says s input ≡ numbered_from 1 (said_from says s (lines_of input))
+  unfolding output_from
   output_numbered s input = replies_numbered s 1 (lines_of input)
 
 -- two ways to answer that agree in certain states, which answers do not leave: from such a state on the replies are the same
 module _ {S : Type 0} (one other : Serving S) (Certain : S → Type 0)
     (kept : (s : S) (line : List ℕ) → Certain s → Certain (one s line).state)
     (agree : (s : S) (line : List ℕ) → Certain s → one s line ≡ other s line) where
-  abbrev Agrees : S → ℕ → List (List ℕ) → Type 0
-  Agrees s number lines = replies_by reply_line one s number lines ≡ replies_by reply_line other s number lines
-
-  replies_agree : (s : S) (number : ℕ) (lines : List (List ℕ)) → Certain s → Agrees s number lines
-  unfolding replies_by
+  replies_agree : (s : S) (number : ℕ) (lines : List (List ℕ)) → Certain s → replies_from one s number lines ≡ replies_from other s number lines
+  unfolding replies_from
   replies_agree s number [] c = refl
   replies_agree s number (line ∷ lines) c =
       ap (λ (t : List ℕ). reply_line number (one s line).reply ++ t) (replies_agree (one s line).state (number + 1) lines (kept s line c))
-      ∙ ap (λ (a : Served S). reply_line number a.reply ++ replies_by reply_line other a.state (number + 1) lines) (agree s line c)
+      ∙ ap (λ (a : Served S). reply_line number a.reply ++ replies_from other a.state (number + 1) lines) (agree s line c)
 
   pub output_agree : (s : S) (input : List ℕ) → Certain s → output_from one s input ≡ output_from other s input
-  unfolding output_by
+  unfolding output_from
   output_agree s input c = replies_agree s 1 (lines_of input) c
 
   -- and so is the state at the end

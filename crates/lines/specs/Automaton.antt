@@ -1,12 +1,11 @@
 -- Document 01, "The listing program": the line automaton. Standard input comes in bytes; a line feed ends a line, and a line's first
 -- bytes stand in a room while it comes in. What answers a line is a parameter, and a state goes on from line to line: the listing has
--- none, and says `lineSaid` of specs/Lines.antt. What is written for a line is a parameter too, `put`: where it is the reply, a name
--- without `By`.
+-- none, and says `lineSaid` of specs/Lines.antt.
 -- Assumes nothing.
 use Rattle.std.specs.Prelude.{ℕ, ◌+◌, ◌%◌, ◌^◌, cond, List, [], ◌∷◌, ◌++◌, length, take, set, ltb, eqb}
 use Prim.Native.Char.{code}
 use Rattle.lines.specs.Lines.{reply_line}
-use Rattle.lines.specs.Answers.{Served, Serving, Putting}
+use Rattle.lines.specs.Answers.{Served, Serving}
 
 -- the line that comes in: its number, how many of its bytes stand in the room, the room, and the state that the line finds
 pub record Coming (S : Type 0) : Type 0 where
@@ -32,9 +31,9 @@ more b line =
 abbrev pub answer : {S : Type 0} → Serving S → Coming S → Served S
 answer says line = says line.state (take line.len line.room)
 
--- what is written for it
-abbrev pub reply_by : {S : Type 0} → Putting → Serving S → Coming S → List ℕ
-reply_by put says line = put line.number (answer says line).reply
+-- the reply to it
+abbrev pub reply : {S : Type 0} → Serving S → Coming S → List ℕ
+reply says line = reply_line line.number (answer says line).reply
 
 -- after a line feed: the next line. After 2^64 - 1, as a machine counts, comes 0
 abbrev pub next : {S : Type 0} → Serving S → Coming S → Coming S
@@ -45,21 +44,15 @@ unfoldable pub after : {S : Type 0} → Serving S → Coming S → List ℕ → 
 after says line [] = line
 after says line (b ∷ bytes) = cond (eqb b (code "\n")) (after says (next says line) bytes) (after says (more b line) bytes)
 
--- what is written for the lines that end in bytes
-unfoldable pub ended_by : {S : Type 0} → Putting → Serving S → Coming S → List ℕ → List ℕ
-ended_by put says line [] = []
-ended_by put says line (b ∷ bytes) =
-    cond (eqb b (code "\n")) (reply_by put says line ++ ended_by put says (next says line) bytes) (ended_by put says (more b line) bytes)
+-- the replies to the lines that end in bytes
+unfoldable pub ended : {S : Type 0} → Serving S → Coming S → List ℕ → List ℕ
+ended says line [] = []
+ended says line (b ∷ bytes) =
+    cond (eqb b (code "\n")) (reply says line ++ ended says (next says line) bytes) (ended says (more b line) bytes)
 
-abbrev pub ended : {S : Type 0} → Serving S → Coming S → List ℕ → List ℕ
-ended = ended_by reply_line
-
--- "A last line needs no line feed, and none starts after a line feed that ends the input": what is written at the end of the input
-unfoldable pub last_by : {S : Type 0} → Putting → Serving S → Coming S → List ℕ
-last_by put says line = cond (eqb line.len 0) [] (reply_by put says line)
-
-abbrev pub last : {S : Type 0} → Serving S → Coming S → List ℕ
-last = last_by reply_line
+-- "A last line needs no line feed, and none starts after a line feed that ends the input": the reply at the end of the input
+unfoldable pub last : {S : Type 0} → Serving S → Coming S → List ℕ
+last says line = cond (eqb line.len 0) [] (reply says line)
 
 -- and the state there
 unfoldable pub final : {S : Type 0} → Serving S → Coming S → S
@@ -70,10 +63,7 @@ unfoldable pub together : List (List ℕ) → List ℕ
 together [] = []
 together (bytes ∷ reads) = bytes ++ together reads
 
--- what is written for an input that comes in several reads
-unfoldable pub listed_by : {S : Type 0} → Putting → Serving S → Coming S → List (List ℕ) → List ℕ
-listed_by put says line [] = last_by put says line
-listed_by put says line (bytes ∷ reads) = ended_by put says line bytes ++ listed_by put says (after says line bytes) reads
-
-abbrev pub listed : {S : Type 0} → Serving S → Coming S → List (List ℕ) → List ℕ
-listed = listed_by reply_line
+-- the replies to an input that comes in several reads
+unfoldable pub listed : {S : Type 0} → Serving S → Coming S → List (List ℕ) → List ℕ
+listed says line [] = last says line
+listed says line (bytes ∷ reads) = ended says line bytes ++ listed says (after says line bytes) reads

@@ -6,6 +6,8 @@ pub mod AnswersLaws
 pub mod Automaton
 pub mod AutomatonLaws
 pub mod ReplyLaws
+pub mod Putting
+pub mod PuttingLaws
 pub mod Starts
 pub mod StartsLaws
 pub mod Messages

@@ -1,5 +1,4 @@
--- How long what is written for lines is, so that a caller can lend room for all of it: by the most bytes for a line, which a reply has 71
--- of. Assumes nothing.
+-- How long replies are, so that a caller can lend room for all of them. Assumes nothing.
 use Rattle.std.specs.Prelude.{ℕ, zero, suc, ◌+◌, ◌*◌, ◌/◌, ◌%◌, ◌≤◌, ◌≡◌, Bool, cond, take, ltb}
 use native.Mathlib.Omega.{arith}
 use Rattle.std.proofs.Math.Path.{refl}
@@ -9,8 +8,8 @@ use Rattle.std.proofs.Math.ListN.{length, length-append}
 use Rattle.std.proofs.Math.Dec.{eqb}
 use Rattle.facts.specs.Texts.{bytes}
 use Rattle.lines.specs.Lines.{Form, unit, not_of_this_form, form, form_said, Coding, Reply, refused, saying, spelling, decimal, longest, line_said, reply_line}
-use Rattle.lines.specs.Answers.{Serving, Putting}
-use Rattle.lines.specs.Automaton.{Coming, more, reply_by, next, ended_by, last_by}
+use Rattle.lines.specs.Answers.{Serving}
+use Rattle.lines.specs.Automaton.{Coming, more, answer, reply, next, ended, last}
 
 -- a number of so many digits at most
 pub spelling_short : (count n : ℕ) → length (spelling count n) ≤ count
@@ -56,44 +55,38 @@ line_short coding short line = pick (ltb longest (length line)) (form line)
     pick false (unit kind number coordinates) = short kind number coordinates
     pick false not_of_this_form = refusal_short 9 0
 
--- replies to lines of which short things are said
-pub reply_short : (number : ℕ) (said : Reply) → Short said → length (reply_line number said) ≤ reply_most
-unfolding reply_line
-reply_short number said short =
-    omega (
-      arith,
-      length-append (decimal number ++ bytes " " ++ saying said) (bytes "\n"),
-      length-append (decimal number ++ bytes " ") (saying said),
-      length-append (decimal number) (bytes " "),
-      spelling_short 20 number,
-      short,
-    )
+-- the replies to lines of which short things are said in every state
+module _ {S : Type 0} (says : Serving S) (short : (s : S) (line : List ℕ) → Short (says s line).reply) where
+  reply_short : (line : Coming S) → length (reply says line) ≤ reply_most
+  unfolding reply_line
+  reply_short line =
+      let this : Reply = (answer says line).reply in
+      omega (
+        arith,
+        length-append (decimal line.number ++ bytes " " ++ saying this) (bytes "\n"),
+        length-append (decimal line.number ++ bytes " ") (saying this),
+        length-append (decimal line.number) (bytes " "),
+        spelling_short 20 line.number,
+        short line.state (take line.len line.room),
+      )
 
--- what is written for a line has at most so many bytes, in every state
-pub record Within {S : Type 0} (most : ℕ) (put : Putting) (says : Serving S) : Type 0 where
-  pub short : (number : ℕ) (s : S) (line : List ℕ) → length (put number (says s line).reply) ≤ most
+  -- a read's are at most so long for each of its bytes
+  abbrev EndedShort : Coming S → List ℕ → Type 0
+  EndedShort line bytes = length (ended says line bytes) ≤ length bytes * reply_most
 
-module _ {S : Type 0} {most : ℕ} {put : Putting} {says : Serving S} (within : Within most put says) where
-  here_within : (line : Coming S) → length (reply_by put says line) ≤ most
-  here_within line = within.short line.number line.state (take line.len line.room)
-
-  -- for a read it has at most so many for each of its bytes
-  abbrev EndedWithin : Coming S → List ℕ → Type 0
-  EndedWithin line bytes = length (ended_by put says line bytes) ≤ length bytes * most
-
-  pub ended_within : (line : Coming S) (bytes : List ℕ) → length (ended_by put says line bytes) ≤ length bytes * most
-  unfolding ended_by
-  ended_within line [] = omega arith
-  ended_within line (b ∷ bytes) = pick (ended_within (next says line) bytes) (ended_within (more b line) bytes) (eqb b 10) refl
+  pub ended_short : (line : Coming S) (bytes : List ℕ) → length (ended says line bytes) ≤ length bytes * reply_most
+  unfolding ended
+  ended_short line [] = omega arith
+  ended_short line (b ∷ bytes) = pick (ended_short (next says line) bytes) (ended_short (more b line) bytes) (eqb b 10) refl
     where
-      pick : EndedWithin (next says line) bytes → EndedWithin (more b line) bytes → (e : Bool) → eqb b 10 ≡ e → EndedWithin line (b ∷ bytes)
-      pick fed grew true e = rw e (omega (arith, length-append (reply_by put says line) (ended_by put says (next says line) bytes), here_within line, fed))
+      pick : EndedShort (next says line) bytes → EndedShort (more b line) bytes → (e : Bool) → eqb b 10 ≡ e → EndedShort line (b ∷ bytes)
+      pick fed grew true e = rw e (omega (arith, length-append (reply says line) (ended says (next says line) bytes), reply_short line, fed))
       pick fed grew false e = rw e (omega (arith, grew))
 
-  pub last_within : (line : Coming S) → length (last_by put says line) ≤ most
-  unfolding last_by
-  last_within line = pick (eqb line.len 0)
+  pub last_short : (line : Coming S) → length (last says line) ≤ reply_most
+  unfolding last
+  last_short line = pick (eqb line.len 0)
     where
-      pick : (e : Bool) → length (cond e [] (reply_by put says line)) ≤ most
+      pick : (e : Bool) → length (cond e [] (reply says line)) ≤ reply_most
       pick true = omega arith
-      pick false = here_within line
+      pick false = reply_short line

@@ -7,8 +7,9 @@ use Rattle.entitlements.specs.Entitlements.{kind_of}
 use Rattle.page.specs.Page.{record_length, record_of, write_checks}
 use Rattle.lines.specs.Lines.{Reply, coded, refused, reply_line, longest}
 use Rattle.lines.specs.Messages.{Message, message, asks_total, not_of_this_form, message_of}
-use Rattle.lines.specs.Answers.{Putting, output_by, always}
+use Rattle.lines.specs.Answers.{always}
 use Rattle.lines.specs.Automaton.{Coming}
+use Rattle.lines.specs.Putting.{Putting, output_by}
 use Rattle.recording.specs.declared.Line.{Line}
 
 -- what writing a record says: the record, or a refusal

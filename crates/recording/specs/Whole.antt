@@ -11,9 +11,10 @@ use Rattle.lines.specs.Lines.{Reply, coded, refused, longest}
 use Rattle.lines.specs.Messages.{Message, message, asks_total, not_of_this_form, message_of}
 use Rattle.lines.specs.Answers.{always}
 use Rattle.lines.specs.AnswersLaws.{ByFirst, long_first}
-use Rattle.lines.specs.Automaton.{first, together, listed_by}
-use Rattle.lines.specs.AutomatonLaws.{listed_whole}
-use Rattle.lines.specs.ReplyLaws.{reply_most, Within, refusal_short, reply_short}
+use Rattle.lines.specs.Automaton.{first, together}
+use Rattle.lines.specs.ReplyLaws.{reply_most, refusal_short}
+use Rattle.lines.specs.Putting.{listed_by}
+use Rattle.lines.specs.PuttingLaws.{listed_whole, Within, reply_line_short}
 use Rattle.recording.specs.Recorded.{reply_of, record_said, form_said, said, as_record, as_told, page_of, told_of}
 use Rattle.recording.specs.RecordedLaws.{said_long}
 
@@ -82,4 +83,4 @@ told_within = record { short = λ (number : ℕ) (s : Unit {0}) (line : List ℕ
   where
     of : (number : ℕ) (reply : Reply) → length (as_told number reply) ≤ reply_most
     of number (coded text) = omega arith
-    of number (refused n p) = reply_short number (refused n p) (refusal_short n p)
+    of number (refused n p) = reply_line_short number (refused n p) (refusal_short n p)

@@ -11,7 +11,8 @@ mod write;
 ghost use Rattle.std.specs.Prelude.{◌≡◌, [], ◌∷◌};
 ghost use Rattle.room.specs.Room.{Put};
 ghost use Rattle.lines.specs.Answers.{always};
-ghost use Rattle.lines.specs.Automaton.{after, ended_by, last_by};
+ghost use Rattle.lines.specs.Automaton.{after};
+ghost use Rattle.lines.specs.Putting.{ended_by, last_by};
 ghost use Rattle.recording.specs.Recorded.{said, as_record, as_told, coming};
 
 // The line that comes in: its number, and how many of its bytes stand in the room.

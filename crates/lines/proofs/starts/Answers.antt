@@ -1,6 +1,5 @@
 -- `lines::starts` meets its contract. The loop's invariant: what is left of both answers as the whole does. Assumes nothing.
 use borrow.Author.Rules.{rules}
-use Prim.Native.Nat.{◌-◌}
 use mathlib.Core.Path.{refl, sym, ◌∙◌}
 use Rattle.lines.specs.StartsLaws.{starts_end, starts_short, starts_other, starts_more}
 use Rattle.lines.proofs.starts.Goals as goal
