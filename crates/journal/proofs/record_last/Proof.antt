@@ -1,5 +1,5 @@
 -- `journal::record_last` meets its contract: for a line at most 31 bytes are recorded, and at most 71 told. Assumes nothing.
-use Rattle.output.specs.Written.{last_starts}
+use Rattle.output.specs.WrittenBy.{last_starts}
 use Rattle.recording.specs.Recorded.{coming}
 use Rattle.recording.specs.Whole.{records_within, told_within}
 use borrow.Author.Rules.{rules}

@@ -1,8 +1,8 @@
 -- `recording::record_all` meets its contract. The loop's invariant is `Taking` twice, for the records and for what is told, whose laws are in
--- output/specs/Replying.antt. Assumes nothing.
+-- output/specs/Taking.antt. Assumes nothing.
 use Rattle.std.proofs.Common.{◌-◌, refl, rules}
 use Rattle.lines.specs.Answers.{always}
-use Rattle.output.specs.Replying.{replying_begin, replying_step, replying_end}
+use Rattle.output.specs.Taking.{taking_begin, taking_step, taking_end}
 use Rattle.recording.specs.Recorded.{said, coming}
 use Rattle.recording.proofs.record_all.Goals as goal
 
@@ -13,8 +13,8 @@ loop-i-init c =
       refl,
       refl,
       refl,
-      replying_begin (always said) start asked.bytes.now asked.out.now,
-      replying_begin (always said) start asked.bytes.now asked.told.now,
+      taking_begin (always said) start asked.bytes.now asked.out.now,
+      taking_begin (always said) start asked.bytes.now asked.told.now,
     )
 
 pub loop-i-preserved : goal.loop-i-preserved
@@ -23,12 +23,12 @@ loop-i-preserved c =
       search rules,
       search rules,
       search rules,
-      replying_step here.invariant.3 (search rules) c.take_byte-recorded.ensures.room_after c.take_byte-recorded.ensures.put,
-      replying_step here.invariant.4 (search rules) c.take_byte-recorded.ensures.room_after c.take_byte-recorded.ensures.put_2,
+      taking_step here.invariant.3 (search rules) c.take_byte-recorded.ensures.room_after c.take_byte-recorded.ensures.put,
+      taking_step here.invariant.4 (search rules) c.take_byte-recorded.ensures.room_after c.take_byte-recorded.ensures.put_2,
     )
 
 pub returns : goal.returns
 returns c =
-    let page = replying_end c.loop-i.invariant.3 (search rules) in
-    let tells = replying_end c.loop-i.invariant.4 (search rules) in
+    let page = taking_end c.loop-i.invariant.3 (search rules) in
+    let tells = taking_end c.loop-i.invariant.4 (search rules) in
     record { room_after = page.0; put = page.1; put_2 = tells.1 }

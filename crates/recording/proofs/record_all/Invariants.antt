@@ -1,8 +1,8 @@
 -- `recording::record_all` meets its contract. The loop's invariant is `Taking` twice, for the records and for what is told, whose laws are in
--- output/specs/Replying.antt. Assumes nothing.
+-- output/specs/Taking.antt. Assumes nothing.
 use Rattle.std.proofs.Common.{◌≡◌, ◌-◌, length}
 use Rattle.lines.specs.Answers.{always}
-use Rattle.output.specs.Replying.{Taking}
+use Rattle.output.specs.Taking.{Taking}
 use Rattle.recording.specs.Recorded.{said, as_record, as_told, coming}
 use Rattle.recording.proofs.record_all.Given as goal
 

@@ -1,6 +1,6 @@
 -- `recording::record_last` meets its contract: where no byte stands in the room there is no line. Assumes nothing.
 use Rattle.lines.specs.Answers.{always}
-use Rattle.lines.specs.AutomatonLaws.{last_none, last_some}
+use Rattle.lines.specs.PuttingLaws.{last_none, last_some}
 use Rattle.room.specs.RoomLaws.{put_nothing}
 use Rattle.recording.specs.Recorded.{said, as_record, as_told, coming}
 use Rattle.recording.proofs.record_last.Goals as goal

@@ -1,6 +1,6 @@
 -- `recording::take_byte` meets its contract, by the two laws of one byte. Assumes nothing.
 use Rattle.lines.specs.Answers.{always}
-use Rattle.lines.specs.AutomatonLaws.{byte_feed, byte_more}
+use Rattle.lines.specs.PuttingLaws.{byte_feed, byte_more}
 use Rattle.room.specs.RoomLaws.{put_nothing}
 use Rattle.recording.specs.Recorded.{said, as_record, as_told, coming}
 use Rattle.recording.proofs.take_byte.Goals as goal
