@@ -13,13 +13,13 @@ use Rattle.quick.proofs.chosen_in.Goals as goal
 pub search-requires : goal.search-requires
 search-requires c =
     let a = c.args in
-    let long : length c.list_edges-count.new.places.0 ≡ length a.room.now = search rules in
-    let fits : 4 * c.list_edges-count.result ≤ length c.list_edges-count.new.places.0 =
+    let long : length c.list_edges-count.new.edges ≡ length a.room.now = search rules in
+    let fits : 4 * c.list_edges-count.result ≤ length c.list_edges-count.new.edges =
     omega (arith, c.list_edges-count.ensures.value, listed_fits a.numbers.now a.room.now a.places.now) in record {
       all_in = record {
         fits = fits;
         all =
-            kept_listed c.list_edges-count.new.places.0 c.list_edges-count.result fits
+            kept_listed c.list_edges-count.new.edges c.list_edges-count.result fits
             ∙ ap₂ (λ (n : ℕ) (ns : List ℕ). edges_in (take (4 * n) ns)) c.list_edges-count.ensures.value c.list_edges-count.ensures.edges_after
             ∙ listed_boundary a.numbers.now a.room.now a.places.now
             (have_room_lem a.numbers.now a.room.now a.places.now c.requires.numbers_in_bounds.0 c.requires.numbers_in_bounds.1);

@@ -2,21 +2,19 @@
 -- behind it, or none. Assumes nothing.
 use Rattle.std.proofs.Common.{◌≡◌, ℕ, ◌-◌, ◌^◌, ◌<◌, List, [], ◌∷◌, length, refl, ◌∙◌, rules}
 use lib.ListN.{length-replicate}
-use types.Run.{OneOf, miss}
-use denote.Enum.Declared.{tag_of}
 use Rattle.entitlements.specs.Entitlements.{account_of}
 use Rattle.index.specs.Index.{slot_count}
 use Rattle.change.specs.ChangeLaws.{stepped_last}
 use Rattle.history.specs.History.{Message}
 use Rattle.page.specs.declared.Found.{Found}
 use Rattle.page.specs.declared.Found.TheVariants as found
-use Rattle.page.specs.contracts.Found.{the_type}
+use Rattle.page.specs.declared.Record.{Record}
 use Rattle.replaying.specs.Replay.{as_found}
 use Rattle.replaying.specs.ReplayLaws.{replaying_begin, replaying_room, replaying_change, replaying_step, replaying_end}
 use Rattle.replaying.proofs.replay.Goals as goal
 
-nothing : (f : Found) → OneOf (1 ∷ 2 ∷ 3 ∷ 4 ∷ []) (tag_of the_type f) → (m : Message) (later : List Message) → as_found f m later ≡ []
-nothing (found.Record r) k m later = absurd (miss (1 ∷ 2 ∷ 3 ∷ 4 ∷ []) 0 tt k)
+nothing : (f : Found) → ((r : Record) → f ≡ found.Record r → ⊥) → (m : Message) (later : List Message) → as_found f m later ≡ []
+nothing (found.Record r) k m later = absurd (k r refl)
 nothing found.End k m later = refl
 nothing found.Cut k m later = refl
 nothing found.Mark k m later = refl
@@ -54,4 +52,4 @@ loop-found-preserved c =
 pub returns : goal.returns
 returns c =
     let here = c.loop-found in
-    rw c.account_of.ensures (replaying_end here.invariant (nothing here.found c.in_default.keys2) c.found_number.ensures)
+    rw c.account_of.ensures (replaying_end here.invariant (nothing here.found c.in_default.not-Record) c.found_number.ensures)

@@ -1,0 +1,50 @@
+-- `quick::kept::keep` meets its contract: the edges put behind the others, with those that meet of the ones still to be seen. Assumes nothing.
+use Prim.Native.Nat.{◌-◌, ◌/◌, ◌<◌}
+use native.Mathlib.Omega.{arith}
+use mathlib.Core.Path.{◌≡◌, ap, sym, ◌∙◌}
+use mathlib.Core.Logic.{⊎_elim}
+use mathlib.Core.Bool.{not}
+use lib.ListN.{length}
+use borrow.Author.Tests.{not-true, not-false}
+use Rattle.edge.specs.Edge.{Edge, edge, beyond, misses}
+use Rattle.edge.specs.MissesLaws.{misses_beyond}
+use Rattle.boundary.specs.Listed.{edge_in}
+use Rattle.quick.specs.HalfLaws.{moved_begin, moved_missed, moved_added, moved_end, moved_as}
+use Rattle.quick.proofs.kept.keep.Goals as goal
+
+pub loop-i-init : goal.loop-i-init
+loop-i-init c = moved_begin _ _ _ _ c.requires.0
+
+pub edge_at-e-requires : goal.edge_at-e-requires
+edge_at-e-requires c =
+    let inv = c.loop-i.invariant in
+    omega (arith, c.loop-i-test.true, inv.long, c.requires.0, c.requires.1)
+
+pub meets-requires : goal.meets-requires
+meets-requires c = sym c.beyond.ensures ∙ c.if-not-beyond.true
+
+pub loop-i-preserved : goal.loop-i-preserved
+loop-i-preserved c =
+    let place : c.loop-i.end < length c.loop-i.room / 4 = let inv = c.loop-i.invariant in omega (arith, c.loop-i-test.true, inv.few, inv.long, c.requires.1) in
+    let seen : edge c.edge_at-e.result.a c.edge_at-e.result.b ≡ edge_in c.loop-i.room c.loop-i.i = c.edge_at-e.ensures in
+    let beyond_told : beyond (edge_in c.loop-i.room c.loop-i.i) c.args.ground ≡ c.beyond.result = sym (c.beyond.ensures ∙ ap (λ (e : Edge). beyond e c.args.ground) seen) in
+    let m = c.loop-i.invariant in
+    ⊎_elim
+    (λ w. let met : tie.After-meets invariant-loop decreases-loop = record { before = record { before = c.before; if1 = w.0 }; meets = w.1 } in
+    moved_as (w.7 ∙ w.4.ensures) w.8
+    (moved_added m c.loop-i-test.true place (not-true _ (meets_told met ∙ w.2.taken)) seen))
+    (λ w. moved_as w.1 w.2
+    (moved_missed m c.loop-i-test.true
+    (⊎_elim
+    (λ v. not-false _ (meets_told (record { before = record { before = c.before; if1 = v.0 }; meets = v.1 }) ∙ v.2.left))
+    (λ v. misses_beyond _ _ (beyond_told ∙ not-false _ v.left))
+    w.0.came)))
+    c.if-not-beyond.branch
+
+pub shape_of-room : goal.shape_of-room
+shape_of-room c = c.loop-i.invariant.long
+
+pub returns : goal.returns
+returns c =
+    let inv = c.loop-i.invariant in
+    record { result_after = moved_end inv c.loop-i-test.false; lower_bound = (inv.first, omega (arith, inv.few, inv.last, c.requires.0, c.requires.1)); same = inv.same }

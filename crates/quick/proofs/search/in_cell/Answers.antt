@@ -1,0 +1,22 @@
+-- `quick::search::in_cell` meets its contract: a descent from the cell, with all edges. Assumes nothing.
+use Prim.Native.Nat.{ℕ}
+use mathlib.Core.Path.{subst}
+use borrow.Author.Rules.{rules}
+use Rattle.boundary.specs.Listed.{boundary_of}
+use Rattle.quick.specs.First.{First}
+use Rattle.quick.specs.HalfLaws.{all_same}
+use Rattle.quick.specs.SearchLaws.{top_level, by_lat_all, two_each}
+use Rattle.quick.proofs.search.in_cell.Goals as goal
+
+pub by_lat-requires : goal.by_lat-requires
+by_lat-requires c =
+    by_lat_all c.requires.all_in c.requires.seeks (top_level c.requires.levels) c.requires.halved c.requires.levels c.requires.past
+
+pub returns : goal.returns
+returns c =
+    let a = c.args in
+    record {
+      first = subst (λ (n : ℕ). First (boundary_of a.numbers.now) n a.sought.finest a.cell a.found c.by_lat.result) (two_each c.requires.levels)
+          c.by_lat.ensures.first;
+      all_in_2 = all_same c.requires.all_in (search rules) c.by_lat.ensures.same;
+    }
