@@ -2,8 +2,7 @@
 use Prim.Native.Nat.{◌-◌, ◌/◌, ◌<◌}
 use native.Mathlib.Omega.{arith}
 use mathlib.Core.Path.{◌≡◌, ap, sym, ◌∙◌}
-use mathlib.Core.Logic.{⊎_elim}
-use mathlib.Core.Bool.{not}
+use mathlib.Core.Bool.{Bool, not}
 use lib.ListN.{length}
 use borrow.Author.Tests.{not-true, not-false}
 use Rattle.edge.specs.Edge.{Edge, edge, beyond, misses}
@@ -11,6 +10,12 @@ use Rattle.edge.specs.MissesLaws.{misses_beyond}
 use Rattle.boundary.specs.Listed.{edge_in}
 use Rattle.quick.specs.HalfLaws.{moved_begin, moved_missed, moved_added, moved_end, moved_as}
 use Rattle.quick.proofs.kept.keep.Goals as goal
+use Rattle.quick.proofs.kept.keep.Goals.{
+  then-not-beyond+then-meets,
+  else-not-beyond,
+  else-not-beyond-via-then-not-beyond+else-meets,
+  else-not-beyond-via-else-not-beyond,
+}
 
 pub loop-i-init : goal.loop-i-init
 loop-i-init c = moved_begin _ _ _ _ c.requires.0
@@ -28,18 +33,20 @@ loop-i-preserved c =
     let place : c.loop-i.end < length c.loop-i.room / 4 = let inv = c.loop-i.invariant in omega (arith, c.loop-i-test.true, inv.few, inv.long, c.requires.1) in
     let seen : edge c.edge_at-e.result.a c.edge_at-e.result.b ≡ edge_in c.loop-i.room c.loop-i.i = c.edge_at-e.ensures in
     let beyond_told : beyond (edge_in c.loop-i.room c.loop-i.i) c.args.ground ≡ c.beyond.result = sym (c.beyond.ensures ∙ ap (λ (e : Edge). beyond e c.args.ground) seen) in
+    let meets_told : (result : Bool) → result ≡ not (misses (edge c.edge_at-e.result.a c.edge_at-e.result.b) c.args.ground)
+    → not (misses (edge_in c.loop-i.room c.loop-i.i) c.args.ground) ≡ result =
+    λ result e. sym (e ∙ ap (λ (x : Edge). not (misses x c.args.ground)) seen) in
     let m = c.loop-i.invariant in
-    ⊎_elim
-    (λ w. let met : tie.After-meets invariant-loop decreases-loop = record { before = record { before = c.before; if1 = w.0 }; meets = w.1 } in
-    moved_as (w.7 ∙ w.4.ensures) w.8
-    (moved_added m c.loop-i-test.true place (not-true _ (meets_told met ∙ w.2.taken)) seen))
-    (λ w. moved_as w.1 w.2
-    (moved_missed m c.loop-i-test.true
-    (⊎_elim
-    (λ v. not-false _ (meets_told (record { before = record { before = c.before; if1 = v.0 }; meets = v.1 }) ∙ v.2.left))
-    (λ v. misses_beyond _ _ (beyond_told ∙ not-false _ v.left))
-    w.0.came)))
-    c.if-not-beyond.branch
+    elim c.if-not-beyond.branch [
+      | then-not-beyond+then-meets w ↦ moved_as (w.room-is ∙ w.put_edge.ensures) w.end-is
+          (moved_added m c.loop-i-test.true place (not-true _ (meets_told w.meets.result w.meets.ensures ∙ w.if-meets.true)) seen)
+      | else-not-beyond w ↦ moved_as w.room-is w.end-is
+          (moved_missed m c.loop-i-test.true
+          (elim w.else-not-beyond.branch [
+            | else-not-beyond-via-then-not-beyond+else-meets v ↦ not-false _ (meets_told v.meets.result v.meets.ensures ∙ v.if-meets.false)
+            | else-not-beyond-via-else-not-beyond v ↦ misses_beyond _ _ (beyond_told ∙ v.if-not-beyond.false)
+          ]))
+    ]
 
 pub shape_of-room : goal.shape_of-room
 shape_of-room c = c.loop-i.invariant.long

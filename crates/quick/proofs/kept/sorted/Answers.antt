@@ -3,7 +3,6 @@ use Prim.Native.Nat.{◌-◌, ◌/◌}
 use native.Mathlib.Omega.{arith}
 use mathlib.Core.Path.{refl, sym, ap, subst, ◌∙◌}
 use lib.ListN.{length}
-use borrow.Author.Tests.{ltb-false}
 use Rattle.ground.specs.Rectangles.{Lies}
 use Rattle.ground.specs.RectanglesLaws.{corner_lies}
 use Rattle.boundary.specs.Listed.{boundary_of}
@@ -21,7 +20,7 @@ pub keep-end-requires : goal.keep-end-requires
 keep-end-requires c =
     let a = c.args in
     let sparse = c.if-room-to.false in
-    (omega (arith, c.requires.place_lt_to.0), omega (arith, c.requires.place_lt_to.0, ltb-false (length a.room.now / 4 - a.half.to) (a.half.to - a.place) sparse))
+    (omega (arith, c.requires.place_lt_to.0), omega (arith, c.requires.place_lt_to.0, sparse))
 
 pub returns : goal.returns
 returns c =
@@ -30,7 +29,7 @@ returns c =
       ground_value = (
         refl,
         sound_sorted c.requires.sound c.south_west-corner.ensures count c.requires.place_lt_to.1 c.keep-end.ensures.result_after
-            (c.keep-end.ensures.lower_bound.0, omega (arith, c.keep-end.ensures.lower_bound.1, c.keep-end.auto.0)),
+            (c.keep-end.ensures.lower_bound.0, omega (arith, c.keep-end.ensures.lower_bound.1, c.keep-end.auto.room)),
       );
       to_le_to = (c.keep-end.ensures.lower_bound.0, c.keep-end.ensures.same);
     }

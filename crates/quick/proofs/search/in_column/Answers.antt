@@ -24,25 +24,30 @@ overflow_cast-north c =
 pub in_cell-found-requires : goal.in_cell-found-requires
 in_cell-found-requires c =
     let next : c.high_side-north.result ≤ lat_end = omega (arith, c.high_side-north.ensures, north_most c.requires.seeks.over c.requires.levels c.loop-south.invariant.2.is c.loop-south-test.true) in
-    record { all_in = c.loop-south.invariant.0; seeks = c.requires.seeks; levels = c.requires.levels; halved = record {
-              lat = record { low = c.loop-south.invariant.2.is; c.before = c.high_side-north.ensures };
-              lon = c.requires.column.lon;
-              north-end = next;
-              east-end = c.requires.column.east_end;
-            }; past = column_past c.requires.seeks.over c.requires.levels c.loop-south.invariant.2 c.high_side-north.result c.requires.past }
+    record {
+      all_in = c.loop-south.invariant.0;
+      seeks = c.requires.seeks;
+      levels = c.requires.levels;
+      halved = record {
+        lat = record { low = c.loop-south.invariant.2.is; high = c.high_side-north.ensures };
+        lon = c.requires.column.lon;
+        north_end = next;
+        east_end = c.requires.column.east_end;
+      };
+      past = column_past c.requires.seeks.over c.requires.levels c.loop-south.invariant.2 c.high_side-north.result c.requires.past;
+    }
 
 pub loop-south-smaller : goal.loop-south-smaller
 loop-south-smaller c =
     omega (arith, c.high_side-north.ensures, low_below_high c.args.top c.loop-south.south (top_level c.requires.levels), c.loop-south-test.true)
 
 pub loop-south-preserved : goal.loop-south-preserved
-loop-south-preserved c =
-    (
-      c.in_cell-found.ensures.all_in_2,
-      search rules,
-      column_again c.requires.seeks.over c.requires.levels c.loop-south.invariant.2 c.in_cell-found.result
-          c.loop-south-test.true c.high_side-north.ensures c.in_cell-found.ensures.first,
-    )
+loop-south-preserved c = (
+  c.in_cell-found.ensures.all_in_2,
+  search rules,
+  column_again c.requires.seeks.over c.requires.levels c.loop-south.invariant.2 c.in_cell-found.result
+      c.loop-south-test.true c.high_side-north.ensures c.in_cell-found.ensures.first,
+)
 
 pub shape_of-room : goal.shape_of-room
 shape_of-room c = c.loop-south.invariant.1

@@ -19,23 +19,28 @@ overflow_cast-east c =
 pub in_column-found-requires : goal.in_column-found-requires
 in_column-found-requires c =
     let next : c.high_side-east.result ≤ lon_end = omega (arith, c.high_side-east.ensures, east_most c.requires.seeks.over c.requires.levels c.loop-west.invariant.2.is c.loop-west-test.true) in
-    record { all_in = c.loop-west.invariant.0; seeks = c.requires.seeks; levels = c.requires.levels; column = record {
-              lon = record { low = c.loop-west.invariant.2.is; c.before = c.high_side-east.ensures };
-              east_end = next;
-            }; past = east_past c.requires.seeks.over c.requires.levels c.loop-west.invariant.2 (lon c.high_side-east.result) }
+    record {
+      all_in = c.loop-west.invariant.0;
+      seeks = c.requires.seeks;
+      levels = c.requires.levels;
+      column = record {
+        lon = record { low = c.loop-west.invariant.2.is; high = c.high_side-east.ensures };
+        east_end = next;
+      };
+      past = east_past c.requires.seeks.over c.requires.levels c.loop-west.invariant.2 (lon c.high_side-east.result);
+    }
 
 pub loop-west-smaller : goal.loop-west-smaller
 loop-west-smaller c =
     omega (arith, c.high_side-east.ensures, low_below_high c.args.top c.loop-west.west (top_level c.requires.levels), c.loop-west-test.true)
 
 pub loop-west-preserved : goal.loop-west-preserved
-loop-west-preserved c =
-    (
-      c.in_column-found.ensures.all_in_2,
-      search rules,
-      east_again c.requires.seeks.over c.requires.levels c.loop-west.invariant.2 c.in_column-found.result
-          c.loop-west-test.true c.high_side-east.ensures c.in_column-found.ensures.first,
-    )
+loop-west-preserved c = (
+  c.in_column-found.ensures.all_in_2,
+  search rules,
+  east_again c.requires.seeks.over c.requires.levels c.loop-west.invariant.2 c.in_column-found.result
+      c.loop-west-test.true c.high_side-east.ensures c.in_column-found.ensures.first,
+)
 
 pub shape_of-room : goal.shape_of-room
 shape_of-room c = c.loop-west.invariant.1

@@ -1,0 +1,16 @@
+-- `lending::hand_back` meets its contract: the places below `i` are copied. Assumes nothing.
+use Prim.Native.Nat.{◌-◌}
+use borrow.Author.Rules.{rules}
+use Rattle.lending.specs.LendingLaws.{copied_begin, copied_again, copied_end}
+use Rattle.lending.proofs.hand_back.Goals as goal
+
+pub loop-i-init : goal.loop-i-init
+loop-i-init c = copied_begin c.args.array c.requires.array_len c.args.lent.now c.requires.lent_len
+
+pub loop-i-preserved : goal.loop-i-preserved
+loop-i-preserved c =
+    copied_again c.args.array c.requires.array_len c.loop-i.invariant (search rules)
+
+pub returns : goal.returns
+returns c =
+    copied_end c.args.array c.requires.array_len c.loop-i.invariant (search rules)

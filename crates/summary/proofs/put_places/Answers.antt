@@ -1,0 +1,32 @@
+-- `summary::put_places` meets its contract: the lines of the places below `i` are put. Assumes nothing.
+use Prim.Native.Nat.{◌-◌}
+use mathlib.Core.Path.{ap, ◌∙◌}
+use mathlib.Core.Logic.{⊎_elim}
+use lib.ListN.{length, get_or}
+use borrow.Author.Tests.{eq-eqb, ne_eqb}
+use Rattle.room.specs.RoomLaws.{length_put}
+use Rattle.summary.specs.SummaryLaws.{listing_begin, listing_active, listing_free, listing_end}
+use borrow.Author.Rules.{rules}
+use Rattle.summary.proofs.put_places.Goals as goal
+
+pub loop-i-init : goal.loop-i-init
+loop-i-init c =
+    let asked = c.args in
+    listing_begin asked.high.now asked.low.now asked.active.now asked.out.now asked.at
+
+pub loop-i-preserved : goal.loop-i-preserved
+loop-i-preserved c =
+    let here = get_or c.args.active.now c.loop-i.i 0 in
+    ⊎_elim
+    (λ w.
+    rw (w.7, w.8)
+    (listing_active c.loop-i.invariant (search rules) (ne_eqb here 0 w.0.taken) w.4.ensures))
+    (λ w. rw (w.1, w.2) (listing_free c.loop-i.invariant (search rules) (eq-eqb here 0 w.0.left))) c.if-active-i-ne0.branch
+
+pub shape_of-out : goal.shape_of-out
+shape_of-out c =
+    let so = c.loop-i.invariant.filled in
+    ap length so.holds ∙ length_put _ _ _
+
+pub returns : goal.returns
+returns c = listing_end c.loop-i.invariant (search rules)
