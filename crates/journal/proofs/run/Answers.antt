@@ -1,8 +1,7 @@
 -- `journal::run` is safe and ends. The loop's invariant: the four buffers keep their lengths. The measure is the number of reads that are
 -- left. The output has room for the records of what a read brought, and what is told for its refusals. Assumes nothing.
-use borrow.Author.Rules.{rules}
 use native.Mathlib.Omega.{arith}
-use mathlib.Core.Path.{◌≡◌}
+use mathlib.Core.Path.{◌≡◌, ◌∙◌}
 use lib.ListN.{length, length-take}
 use Rattle.journal.proofs.run.Goals as goal
 
@@ -17,12 +16,14 @@ write_out-requires c =
 
 pub record_all-recorded-requires : goal.record_all-recorded-requires
 record_all-recorded-requires c =
-    let asked = c.args in
-    let read = c.read.new.1.0 in
-    let same : length read ≡ length asked.input.now = search rules in
+    let read = c.read.new.buf in
     let kept = c.loop-reads.invariant in
-    let few = length-take c.n-1.result read in
-    record { record_length_in_bounds = omega (arith, few, same, c.requires.record_length_in_bounds, kept.2); reply_most_in_bounds = omega (arith, few, same, c.requires.reply_most_in_bounds, kept.3) }
+    let same : length read ≡ length c.args.input.now = c.read.auto.buf ∙ kept.0 in
+    let few = length-take c.in-Ok.n read in
+    record {
+      record_length_in_bounds = omega (arith, few, same, c.requires.record_length_in_bounds, kept.2);
+      reply_most_in_bounds = omega (arith, few, same, c.requires.reply_most_in_bounds, kept.3);
+    }
 
 pub write_out-requires-in-loop-reads : goal.write_out-requires-in-loop-reads
 write_out-requires-in-loop-reads c =

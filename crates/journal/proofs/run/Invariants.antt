@@ -5,7 +5,7 @@ use lib.ListN.{length}
 use Rattle.journal.proofs.run.Given as goal
 
 abbrev pub invariant-loop-reads : goal.invariant-loop-reads
-invariant-loop-reads l = (length l.input ≡ length l.rt) × (length l.room ≡ length l.initial.input) × (length l.output ≡ length l.initial.room) × (length l.told ≡ length l.initial.output)
+invariant-loop-reads l = (length l.input ≡ length l.fn.input) × (length l.room ≡ length l.fn.room) × (length l.output ≡ length l.fn.output) × (length l.told ≡ length l.fn.told)
 
 abbrev pub decreases-loop-reads : goal.decreases-loop-reads
 decreases-loop-reads l = l.reads

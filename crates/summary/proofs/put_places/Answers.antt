@@ -1,13 +1,13 @@
 -- `summary::put_places` meets its contract: the lines of the places below `i` are put. Assumes nothing.
 use Prim.Native.Nat.{◌-◌}
 use mathlib.Core.Path.{ap, ◌∙◌}
-use mathlib.Core.Logic.{⊎_elim}
 use lib.ListN.{length, get_or}
 use borrow.Author.Tests.{eq-eqb, ne_eqb}
 use Rattle.room.specs.RoomLaws.{length_put}
 use Rattle.summary.specs.SummaryLaws.{listing_begin, listing_active, listing_free, listing_end}
 use borrow.Author.Rules.{rules}
 use Rattle.summary.proofs.put_places.Goals as goal
+use Rattle.summary.proofs.put_places.Goals.{then-active-i-ne0, else-active-i-ne0}
 
 pub loop-i-init : goal.loop-i-init
 loop-i-init c =
@@ -17,11 +17,12 @@ loop-i-init c =
 pub loop-i-preserved : goal.loop-i-preserved
 loop-i-preserved c =
     let here = get_or c.args.active.now c.loop-i.i 0 in
-    ⊎_elim
-    (λ w.
-    rw (w.7, w.8)
-    (listing_active c.loop-i.invariant (search rules) (ne_eqb here 0 w.0.taken) w.4.ensures))
-    (λ w. rw (w.1, w.2) (listing_free c.loop-i.invariant (search rules) (eq-eqb here 0 w.0.left))) c.if-active-i-ne0.branch
+    elim c.if-active-i-ne0.branch [
+      | then-active-i-ne0 w ↦ rw (w.out-is, w.end-is)
+          (listing_active c.loop-i.invariant (search rules) (ne_eqb here 0 w.if-active-i-ne0.true) w.put_place-end.ensures)
+      | else-active-i-ne0 w ↦ rw (w.out-is, w.end-is)
+          (listing_free c.loop-i.invariant (search rules) (eq-eqb here 0 w.if-active-i-ne0.false))
+    ]
 
 pub shape_of-out : goal.shape_of-out
 shape_of-out c =
