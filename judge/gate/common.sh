@@ -6,7 +6,7 @@ judge=$root/target/judge
 # missing and COMMAND, which would stand for it, is empty.
 ready() {
     if [ -z "$2" ] && [ ! -x "$root/target/bin/$1" ]; then
-        (cd "$root" && rt check "$1")
+        "$root/bin/build" "$1"
     fi
     if [ ! -x "$judge" ] || [ -n "$(find "$root/judge" -name '*.rs' -newer "$judge")" ]; then
         "$root/judge/gate/build"

@@ -48,9 +48,9 @@ data Numbered : ℕ → List ℕ → List Edge → Type 0 where
   one : {i j : ℕ} {js : List ℕ} {e : Edge} {es : List Edge} → i ≤ j → Numbered (suc j) js es → Numbered i (j ∷ js) (e ∷ es)
 
 -- which are so from any earlier one on
-numbered_from : {i j : ℕ} {js : List ℕ} {es : List Edge} → i ≤ j → Numbered j js es → Numbered i js es
-numbered_from h none = none
-numbered_from {i} h (one {j = j} k r) = one {i = i} {j = j} (omega arith) r
+numbered_from_lem : {i j : ℕ} {js : List ℕ} {es : List Edge} → i ≤ j → Numbered j js es → Numbered i js es
+numbered_from_lem h none = none
+numbered_from_lem {i} h (one {j = j} k r) = one {i = i} {j = j} (omega arith) r
 
 -- The places of edges that have a length are such
 numbered : (i : ℕ) (es : List Edge) → Numbered i (places_from i es) (with_length es)
@@ -59,7 +59,7 @@ numbered i (e ∷ es) = at (no_length e) (numbered (suc i) es)
   where
     at : (b : Bool) → Numbered (suc i) (places_from (suc i) es) (with_length es)
         → Numbered i (cond b (places_from (suc i) es) (i ∷ places_from (suc i) es)) (cond b (with_length es) (e ∷ with_length es))
-    at true r = numbered_from (omega arith) r
+    at true r = numbered_from_lem (omega arith) r
     at false r = one {i = i} {j = i} (omega arith) r
 
 -- A pair is found in one place or else in another

@@ -43,6 +43,11 @@ writing_nowhere written.Scale = refl
 writing_nowhere written.Span = refl
 writing_nowhere written.Number = refl
 
+-- What writing leaves: the place is always 0
+pub write_leaves : (w : Written) (o : Outcome) {n : ℕ} {room : List ℕ} → of_code.leaves w room ≡ o → n ≡ (of_code.says w).number
+    → leaves (record { number = n; place = 0 }) room ≡ o
+write_leaves w o {n} {room} p e = ap (λ (s : Said). leaving s room) (says_both (of_code.says w) e (sym (writing_nowhere w))) ∙ p
+
 -- and recording does not
 pub recording_nowhere : (w : of_page.Written) → (page.says w).place ≡ 0
 recording_nowhere recorded.Accepted = refl

@@ -15,7 +15,7 @@ use Rattle.ground.specs.Rectangles.{south_of, north_of, west_of, east_of}
 use Rattle.ground.specs.Cells.{afresh, start_of, low_side, high_side}
 use Rattle.ground.specs.CellsLaws.{low_below_high}
 use Rattle.ground.specs.SidesLaws.{Measured, start_is, some_size, some_afresh, side_measured, measured_side, high_low, none_between}
-use Rattle.ground.specs.Halves.{Span, Ground, split_at, lat_split, lon_split, cut_of, narrowest}
+use Rattle.ground.specs.Halves.{Span, Ground, split_at, cut_of, narrowest}
 
 -- The next level halves the size, and starts afresh where this one does
 record HalvesSize (level : ℕ) : Type 0 where

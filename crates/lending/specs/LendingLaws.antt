@@ -1,4 +1,4 @@
--- The laws of a lent account: arrays copied place by place, and a message and a replay that leave 256 places. Assumes nothing.
+-- The laws of a lent account: arrays copied place by place, a message that leaves them as long as they were, and a replay that leaves 256 places. Assumes nothing.
 use Rattle.std.specs.Prelude.{ℕ, ◌+◌, ◌≤◌, ◌<◌, ◌≡◌, refl, true, false, ◌&&◌, List, [], ◌∷◌, ◌++◌, eqb, length, take, set, get_or}
 use Rattle.std.proofs.Common.{add-one, arith, ap, sym, subst, ◌∙◌, length-set, take-suc-set, take-suc, take_all, eq-eqb, ne_eqb, eqb-true}
 use Rattle.std.proofs.Math.Bool.{and-false}
@@ -41,6 +41,40 @@ module _ (from : List ℕ) (all : length from ≡ places) where
   copied_end {array} {i} p h =
       sym (take_all i array (omega (arith, p.long))) ∙ p.same ∙ take_all i from (omega (arith, all))
 
+module _ (kind : Kind) (high low active : List ℕ) (last total : ℕ) (text : List ℕ) (number : ℕ) where
+  abbrev Refuses : Type 0
+  Refuses = lending kind high low active last total text number ≡ done (refusal 40) (account_of high low active last total)
+
+  -- An array of another length is no account
+  pub lending_high : (length high ≡ places → ⊥) → Refuses
+  unfolding lending
+  lending_high n = rw (ne_eqb (length high) places n)
+
+  pub lending_low : (length low ≡ places → ⊥) → Refuses
+  unfolding lending
+  lending_low n = rw (ne_eqb (length low) places n, and-false)
+
+  pub lending_active : (length active ≡ places → ⊥) → Refuses
+  unfolding lending
+  lending_active n = rw (ne_eqb (length active) places n, and-false, and-false)
+
+  -- Three of 256 places are one
+  pub lending_sends : length high ≡ places → length low ≡ places → length active ≡ places
+      → lending kind high low active last total text number ≡ message kind (account_of high low active last total) text number
+  unfolding lending
+  lending_sends h l a = rw (eq-eqb (length high) places h, eq-eqb (length low) places l, eq-eqb (length active) places a)
+
+  -- and whatever keeps the promise of the message has 256 places afterwards
+  pub sends_sized : length high ≡ places → length low ≡ places → length active ≡ places → (r : Answered) {account : Account}
+      → account ≡ account_of high low active last total → does r ≡ message kind account text number → Sized r.account
+  sends_sized h l a r {account} e so =
+      let whole : does r ≡ message kind (account_of high low active last total) text number =
+      so ∙ ap (λ (from : Account). message kind from text number) e in
+      subst (λ (d : Done). Sized d.account) (sym whole)
+      (message_sized kind (account_of high low active last total) text number (record { highs = h; lows = l; actives = a }))
+
+-- ---- By whether what is lent is an account
+
 module _ (high low active : List ℕ) where
   -- An array of another length is no account
   pub high_none : (length high ≡ places → ⊥) → is_account high low active ≡ false
@@ -72,15 +106,15 @@ module _ (kind : Kind) (high low active : List ℕ) (last total : ℕ) (text : L
   lending_refuses e = rw e
 
   -- and one to an account is sent
-  pub lending_sends : is_account high low active ≡ true
+  pub account_sends : is_account high low active ≡ true
       → lending kind high low active last total text number ≡ message kind (account_of high low active last total) text number
   unfolding lending
-  lending_sends e = rw e
+  account_sends e = rw e
 
   -- Whatever keeps the promise of the message has 256 places afterwards
-  pub sends_sized : is_account high low active ≡ true → (r : Answered) {account : Account} → account ≡ account_of high low active last total
+  pub account_sends_sized : is_account high low active ≡ true → (r : Answered) {account : Account} → account ≡ account_of high low active last total
       → does r ≡ message kind account text number → Sized r.account
-  sends_sized lent r {account} e so =
+  account_sends_sized lent r {account} e so =
       let whole : does r ≡ message kind (account_of high low active last total) text number =
       so ∙ ap (λ (from : Account). message kind from text number) e in
       subst (λ (d : Done). Sized d.account) (sym whole)

@@ -8,22 +8,27 @@ use Rattle.cells.proofs.high_side.Goals as goal
 
 pub overflow_mul-cut : goal.overflow_mul-cut
 overflow_mul-cut c =
-    omega (arith, (let whole_here : c.args.a / c.afresh-whole.result * c.afresh-whole.result + c.args.a % c.afresh-whole.result ≡ c.args.a = div-add-mod' c.args.a c.afresh-whole.result in whole_here))
+    let whole : c.args.a / c.afresh-whole.result * c.afresh-whole.result + c.args.a % c.afresh-whole.result ≡ c.args.a = div-add-mod' c.args.a c.afresh-whole.result in
+    omega (arith, whole)
 
 pub overflow_cast-cut : goal.overflow_cast-cut
 overflow_cast-cut c =
-    omega (arith, (let whole_here : c.args.a / c.afresh-whole.result * c.afresh-whole.result + c.args.a % c.afresh-whole.result ≡ c.args.a = div-add-mod' c.args.a c.afresh-whole.result in whole_here))
+    let whole : c.args.a / c.afresh-whole.result * c.afresh-whole.result + c.args.a % c.afresh-whole.result ≡ c.args.a = div-add-mod' c.args.a c.afresh-whole.result in
+    omega (arith, whole)
 
 pub overflow_add-cut : goal.overflow_add-cut
 overflow_add-cut c =
-    omega (arith, (let whole_here : c.args.a / c.afresh-whole.result * c.afresh-whole.result + c.args.a % c.afresh-whole.result ≡ c.args.a = div-add-mod' c.args.a c.afresh-whole.result in whole_here))
+    let whole : c.args.a / c.afresh-whole.result * c.afresh-whole.result + c.args.a % c.afresh-whole.result ≡ c.args.a = div-add-mod' c.args.a c.afresh-whole.result in
+    omega (arith, whole)
 
 pub returns-then-full-cut : goal.returns-then-full-cut
 unfolding high_side
 returns-then-full-cut c =
-    omega (arith, (let side_here : min (c.args.a + c.size.result) (c.args.a / c.afresh-whole.result * c.afresh-whole.result + c.afresh-whole.result) ≡ high_side c.args.level c.args.a = let a = c.args.a in ap₂ (λ (s w : ℕ). min (a + s) (a / w * w + w)) c.size.ensures c.afresh-whole.ensures.value in side_here), c.if-full-cut.true)
+    let side : min (c.args.a + c.size.result) (c.args.a / c.afresh-whole.result * c.afresh-whole.result + c.afresh-whole.result) ≡ high_side c.args.level c.args.a = let a = c.args.a in ap₂ (λ (s w : ℕ). min (a + s) (a / w * w + w)) c.size.ensures c.afresh-whole.ensures.value in
+    omega (arith, side, c.if-full-cut.true)
 
 pub returns-else-full-cut : goal.returns-else-full-cut
 unfolding high_side
 returns-else-full-cut c =
-    omega (arith, (let side_here : min (c.args.a + c.size.result) (c.args.a / c.afresh-whole.result * c.afresh-whole.result + c.afresh-whole.result) ≡ high_side c.args.level c.args.a = let a = c.args.a in ap₂ (λ (s w : ℕ). min (a + s) (a / w * w + w)) c.size.ensures c.afresh-whole.ensures.value in side_here), c.if-full-cut.false)
+    let side : min (c.args.a + c.size.result) (c.args.a / c.afresh-whole.result * c.afresh-whole.result + c.afresh-whole.result) ≡ high_side c.args.level c.args.a = let a = c.args.a in ap₂ (λ (s w : ℕ). min (a + s) (a / w * w + w)) c.size.ensures c.afresh-whole.ensures.value in
+    omega (arith, side, c.if-full-cut.false)

@@ -1,5 +1,4 @@
 -- `cells::sides_found` meets its contract: the first part of the test that fails decides. Assumes nothing.
--- where the tests up to the west side pass, the south side decides
 use Prim.Native.Nat.{◌≤◌}
 use native.Mathlib.Omega.{arith}
 use mathlib.Core.Path.{◌≡◌, sym, ◌∙◌}
@@ -28,21 +27,25 @@ returns-then-not-is_side c =
 pub returns-then-not-is_side-2 : goal.returns-then-not-is_side-2
 unfolding sides_found is_cell
 returns-then-not-is_side-2 c =
-    rw ((let so_far_here : let a = c.args.c in is_cell a ≡ is_side a.level a.south.0 lat_end = let level = c.args.c.level in rw (le-leb coarsest_level level c.if-level-lt-COARSEST.false, le-leb level finest_level c.if-level-gt-FINEST.false, sym c.is_side.ensures ∙ c.if-not-is_side.false) in so_far_here), sym c.is_side-2.ensures ∙ c.if-not-is_side-2.true)
+    let so_far : let a = c.args.c in is_cell a ≡ is_side a.level a.south.0 lat_end = let level = c.args.c.level in rw (le-leb coarsest_level level c.if-level-lt-COARSEST.false, le-leb level finest_level c.if-level-gt-FINEST.false, sym c.is_side.ensures ∙ c.if-not-is_side.false) in
+    rw (so_far, sym c.is_side-2.ensures ∙ c.if-not-is_side-2.true)
 
 pub overflow_cast-result : goal.overflow_cast-result
 overflow_cast-result c =
-    omega (arith, c.high_side.ensures, ((let ends_here : (high_side c.args.c.level c.args.c.west.0 ≤ lon_end) × (high_side c.args.c.level c.args.c.south.0 ≤ lat_end) = let a = c.args.c in (side_ends a.level a.west.0 lon_end (sym c.is_side.ensures ∙ c.if-not-is_side.false), side_ends a.level a.south.0 lat_end (sym c.is_side-2.ensures ∙ c.if-not-is_side-2.false)) in ends_here)).0)
+    let ends : (high_side c.args.c.level c.args.c.west.0 ≤ lon_end) × (high_side c.args.c.level c.args.c.south.0 ≤ lat_end) = let a = c.args.c in (side_ends a.level a.west.0 lon_end (sym c.is_side.ensures ∙ c.if-not-is_side.false), side_ends a.level a.south.0 lat_end (sym c.is_side-2.ensures ∙ c.if-not-is_side-2.false)) in
+    omega (arith, c.high_side.ensures, ends.0)
 
 pub overflow_cast-result-2 : goal.overflow_cast-result-2
 overflow_cast-result-2 c =
-    omega (arith, c.high_side-2.ensures, ((let ends_here : (high_side c.args.c.level c.args.c.west.0 ≤ lon_end) × (high_side c.args.c.level c.args.c.south.0 ≤ lat_end) = let a = c.args.c in (side_ends a.level a.west.0 lon_end (sym c.is_side.ensures ∙ c.if-not-is_side.false), side_ends a.level a.south.0 lat_end (sym c.is_side-2.ensures ∙ c.if-not-is_side-2.false)) in ends_here)).1)
+    let ends : (high_side c.args.c.level c.args.c.west.0 ≤ lon_end) × (high_side c.args.c.level c.args.c.south.0 ≤ lat_end) = let a = c.args.c in (side_ends a.level a.west.0 lon_end (sym c.is_side.ensures ∙ c.if-not-is_side.false), side_ends a.level a.south.0 lat_end (sym c.is_side-2.ensures ∙ c.if-not-is_side-2.false)) in
+    omega (arith, c.high_side-2.ensures, ends.1)
 
 pub returns : goal.returns
 unfolding sides_found sides_of is_cell
 returns c =
+    let so_far : let a = c.args.c in is_cell a ≡ is_side a.level a.south.0 lat_end = let level = c.args.c.level in rw (le-leb coarsest_level level c.if-level-lt-COARSEST.false, le-leb level finest_level c.if-level-gt-FINEST.false, sym c.is_side.ensures ∙ c.if-not-is_side.false) in
     rw (
-      (let so_far_here : let a = c.args.c in is_cell a ≡ is_side a.level a.south.0 lat_end = let level = c.args.c.level in rw (le-leb coarsest_level level c.if-level-lt-COARSEST.false, le-leb level finest_level c.if-level-gt-FINEST.false, sym c.is_side.ensures ∙ c.if-not-is_side.false) in so_far_here),
+      so_far,
       sym c.is_side-2.ensures ∙ c.if-not-is_side-2.false,
       c.high_side.ensures,
       c.high_side-2.ensures,

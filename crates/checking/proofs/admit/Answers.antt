@@ -1,7 +1,4 @@
 -- `checking::admit` meets its contract: the early tables' refusal, the late ones', or the unit's own extremes. Assumes nothing.
--- the early tables, and the late ones
--- the early ones refuse nothing
--- so what the late ones say is said
 use Prim.Native.Nat.{ℕ}
 use mathlib.Core.Path.{◌≡◌, ap, sym, ◌∙◌}
 use mathlib.Core.List.{List, ◌++◌}

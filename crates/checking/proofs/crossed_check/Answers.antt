@@ -1,6 +1,4 @@
 -- `checking::crossed_check` meets its contract: by the pair found, which names corners of the list, or none. Assumes nothing.
--- the pair that is found
--- names two of at most 1,024 corners
 use Prim.Native.Nat.{◌<◌}
 use native.Mathlib.Omega.{arith}
 use mathlib.Core.Path.{◌≡◌, sym, ◌∙◌}

@@ -1,7 +1,4 @@
 -- `checking::ground_checks` meets its contract: each refusal is the first check that refuses. Assumes nothing.
--- the place that check 4 looks at, and its test
--- what it has said
--- and what check 5 says, by the span
 use Prim.Native.Nat.{ℕ}
 use native.Mathlib.Omega.{arith}
 use mathlib.Core.Path.{◌≡◌, ap, sym, ◌∙◌}

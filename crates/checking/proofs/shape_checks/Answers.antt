@@ -1,6 +1,4 @@
 -- `checking::shape_checks` meets its contract: each refusal is the first check that refuses. Assumes nothing.
--- check 2 does not refuse
--- what check 3 says of the count
 use Prim.Native.Nat.{◌/◌, ◌%◌}
 use mathlib.Core.Path.{◌≡◌}
 use mathlib.Core.Bool.{false, true}

@@ -1,7 +1,5 @@
 -- `crossing::turns` meets its contract: the two crossings and the two ends, each counted as odd or even; where neither latitude is between
 -- the ends, nothing is crossed, and the ends are parted both alike. Assumes nothing.
--- four tests, two and two
--- where neither latitude is between the ends: parted, and one of them alone at or beyond the east side
 use mathlib.Core.Path.{◌≡◌, ap, ap₂, sym, ◌∙◌}
 use mathlib.Core.Bool.{Bool, not, ◌&&◌, beq}
 use lib.Dec.{leb}
@@ -25,10 +23,12 @@ returns-then-straddles c =
 
 pub returns-then-parted : goal.returns-then-parted
 returns-then-parted c =
+    let told : let a = c.args in turns a.east a.p a.q (edge a.a a.b) ≡ (c.parted.result && differ (leb a.east.0 a.a.lon.0) (leb a.east.0 a.b.lon.0)) = let a = c.args in turns_parted a.east a.p a.q (edge a.a a.b) (sym c.straddles.ensures ∙ c.if-straddles.false) (sym c.straddles-else-straddles.ensures ∙ c.if-straddles-2.false) ∙ ap (λ (t : Bool). t && differ (leb a.east.0 a.a.lon.0) (leb a.east.0 a.b.lon.0)) (sym c.parted.ensures) in
     let start = c.past_east in
     let end = c.past_east-then-parted in
-    rw ((let told_here : let a = c.args in turns a.east a.p a.q (edge a.a a.b) ≡ (c.parted.result && differ (leb a.east.0 a.a.lon.0) (leb a.east.0 a.b.lon.0)) = let a = c.args in turns_parted a.east a.p a.q (edge a.a a.b) (sym c.straddles.ensures ∙ c.if-straddles.false) (sym c.straddles-else-straddles.ensures ∙ c.if-straddles-2.false) ∙ ap (λ (t : Bool). t && differ (leb a.east.0 a.a.lon.0) (leb a.east.0 a.b.lon.0)) (sym c.parted.ensures) in told_here), c.if-parted.true) (unlike start.result end.result ∙ ap₂ differ start.ensures end.ensures)
+    rw (told, c.if-parted.true) (unlike start.result end.result ∙ ap₂ differ start.ensures end.ensures)
 
 pub returns-else-parted : goal.returns-else-parted
 returns-else-parted c =
-    rw ((let told_here : let a = c.args in turns a.east a.p a.q (edge a.a a.b) ≡ (c.parted.result && differ (leb a.east.0 a.a.lon.0) (leb a.east.0 a.b.lon.0)) = let a = c.args in turns_parted a.east a.p a.q (edge a.a a.b) (sym c.straddles.ensures ∙ c.if-straddles.false) (sym c.straddles-else-straddles.ensures ∙ c.if-straddles-2.false) ∙ ap (λ (t : Bool). t && differ (leb a.east.0 a.a.lon.0) (leb a.east.0 a.b.lon.0)) (sym c.parted.ensures) in told_here), c.if-parted.false)
+    let told : let a = c.args in turns a.east a.p a.q (edge a.a a.b) ≡ (c.parted.result && differ (leb a.east.0 a.a.lon.0) (leb a.east.0 a.b.lon.0)) = let a = c.args in turns_parted a.east a.p a.q (edge a.a a.b) (sym c.straddles.ensures ∙ c.if-straddles.false) (sym c.straddles-else-straddles.ensures ∙ c.if-straddles-2.false) ∙ ap (λ (t : Bool). t && differ (leb a.east.0 a.a.lon.0) (leb a.east.0 a.b.lon.0)) (sym c.parted.ensures) in
+    rw (told, c.if-parted.false)

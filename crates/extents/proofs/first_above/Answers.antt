@@ -1,5 +1,4 @@
 -- `extents::first_above` meets its contract: no corner before `i` is above its range. Assumes nothing.
--- the test of the corner at place i
 use Prim.Native.Nat.{◌-◌}
 use mathlib.Core.Path.{◌≡◌, ap, sym, ◌∙◌}
 use native.Mathlib.Omega.{arith}
@@ -20,11 +19,13 @@ loop-i-init c = begin
 
 pub returns-then-above_range : goal.returns-then-above_range
 returns-then-above_range c =
-    found c.loop-i.invariant (omega (arith, corners_length (c.args.numbers.now))) origin ((let told_here : above_range (get_or (corners_of (c.args.numbers.now)) c.loop-i.i origin) ≡ c.above_range.result = ap above_range (corner_get (c.args.numbers.now) c.loop-i.i origin (search rules) ∙ sym c.corner.ensures) ∙ sym c.above_range.ensures in told_here) ∙ c.if-above_range.true)
+    let told : above_range (get_or (corners_of (c.args.numbers.now)) c.loop-i.i origin) ≡ c.above_range.result = ap above_range (corner_get (c.args.numbers.now) c.loop-i.i origin (search rules) ∙ sym c.corner.ensures) ∙ sym c.above_range.ensures in
+    found c.loop-i.invariant (omega (arith, corners_length (c.args.numbers.now))) origin (told ∙ c.if-above_range.true)
 
 pub loop-i-preserved : goal.loop-i-preserved
 loop-i-preserved c =
-    again c.loop-i.invariant (omega (arith, corners_length (c.args.numbers.now))) origin ((let told_here : above_range (get_or (corners_of (c.args.numbers.now)) c.loop-i.i origin) ≡ c.above_range.result = ap above_range (corner_get (c.args.numbers.now) c.loop-i.i origin (search rules) ∙ sym c.corner.ensures) ∙ sym c.above_range.ensures in told_here) ∙ c.if-above_range.false)
+    let told : above_range (get_or (corners_of (c.args.numbers.now)) c.loop-i.i origin) ≡ c.above_range.result = ap above_range (corner_get (c.args.numbers.now) c.loop-i.i origin (search rules) ∙ sym c.corner.ensures) ∙ sym c.above_range.ensures in
+    again c.loop-i.invariant (omega (arith, corners_length (c.args.numbers.now))) origin (told ∙ c.if-above_range.false)
 
 pub returns : goal.returns
 returns c =

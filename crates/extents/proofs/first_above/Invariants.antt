@@ -1,5 +1,4 @@
 -- `extents::first_above` meets its contract: no corner before `i` is above its range. Assumes nothing.
--- the test of the corner at place i
 use Prim.Native.Nat.{◌-◌, ◌/◌}
 use lib.ListN.{length}
 use Rattle.facts.specs.Places.{NoneBefore}

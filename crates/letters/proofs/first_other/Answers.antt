@@ -1,5 +1,5 @@
 -- `letters::first_other` meets its contract: each byte before `i` is a letter. Assumes nothing.
-use Prim.Native.Nat.{ℕ, ◌-◌}
+use Prim.Native.Nat.{ℕ}
 use mathlib.Core.Path.{sym, ◌∙◌}
 use borrow.Author.Rules.{rules}
 use lib.ListN.{get_or}

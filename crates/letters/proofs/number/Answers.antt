@@ -1,5 +1,5 @@
 -- `letters::number` meets its contract: the sum is what the letters before `i` spell. Assumes nothing.
-use Prim.Native.Nat.{ℕ, ◌-◌, ◌≤◌}
+use Prim.Native.Nat.{ℕ, ◌≤◌}
 use mathlib.Core.Path.{sym, subst}
 use native.Mathlib.Omega.{arith}
 use borrow.Author.Rules.{rules}

@@ -1,8 +1,6 @@
 -- `letters::value_in` meets its contract: the loop has met no such letter before `i`. Assumes nothing.
-use Prim.Native.Nat.{◌-◌}
 use borrow.Author.Rules.{rules}
 use borrow.Author.Tests.{eq-eqb, ne_eqb}
-use lib.Dec.{eqb}
 use Rattle.facts.specs.Places.{begin, again, found, finish}
 use Rattle.letters.proofs.value_in.Goals as goal
 

@@ -1,5 +1,4 @@
 -- `page::code_at` meets its contract: a record that is found has its bytes in the page. Assumes nothing.
--- Where no record is found there is nothing
 use Prim.Native.Nat.{◌+◌}
 use mathlib.Core.Path.{◌≡◌, refl, ap, sym, ◌∙◌}
 use mathlib.Core.List.{List, []}

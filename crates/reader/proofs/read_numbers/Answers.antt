@@ -1,8 +1,4 @@
 -- `reader::read_numbers` meets its contract: each refusal is the first check of the location that refuses. Assumes nothing.
--- where both directions' bits are told, from each later place
--- what each check asks of the location, as the code has it
--- what each has said where it is passed
--- and where all before one are passed
 use Prim.Native.Nat.{ℕ, ◌%◌}
 use mathlib.Core.Path.{◌≡◌, ap, ap₂, sym, ◌∙◌}
 use mathlib.Core.Bool.{false, ◌||◌}
@@ -23,29 +19,55 @@ returns-then-location-eq0 c = rw (eq-eqb _ _ c.if-location-eq0.true)
 pub returns-then-either_less : goal.returns-then-either_less
 unfolding reading_numbers location_checks
 returns-then-either_less c =
-    rw ((let closed_here : eqb (c.args.location % 2) 0 ≡ false = ne_eqb _ _ c.if-location-eq0.false in closed_here), (let hemisphere_here : other_hemisphere (c.args.location) ≡ c.either_less.result = ap₂ (λ (a b : ℕ). ltb 0 (hemisphere_in a) || ltb 0 (hemisphere_in b)) (sym c.lat_in-lat.ensures) (sym c.lon_in-lon.ensures) ∙ sym c.either_less.ensures in hemisphere_here) ∙ c.if-either_less.true)
+    let closed : eqb (c.args.location % 2) 0 ≡ false = ne_eqb _ _ c.if-location-eq0.false in
+    let hemisphere : other_hemisphere (c.args.location) ≡ c.either_less.result = ap₂ (λ (a b : ℕ). ltb 0 (hemisphere_in a) || ltb 0 (hemisphere_in b)) (sym c.lat_in-lat.ensures) (sym c.lon_in-lon.ensures) ∙ sym c.either_less.ensures in
+    rw (closed, hemisphere ∙ c.if-either_less.true)
 
 pub returns-then-either_less-2 : goal.returns-then-either_less-2
 unfolding reading_numbers location_checks
 returns-then-either_less-2 c =
-    rw ((let closed_here : eqb (c.args.location % 2) 0 ≡ false = ne_eqb _ _ c.if-location-eq0.false in closed_here), (let own_hemisphere_here : other_hemisphere (c.args.location) ≡ false = (let hemisphere_here : other_hemisphere (c.args.location) ≡ c.either_less.result = ap₂ (λ (a b : ℕ). ltb 0 (hemisphere_in a) || ltb 0 (hemisphere_in b)) (sym c.lat_in-lat.ensures) (sym c.lon_in-lon.ensures) ∙ sym c.either_less.ensures in hemisphere_here) ∙ c.if-either_less.false in own_hemisphere_here), (let degrees_here : past_degrees (c.args.location) ≡ c.either_less-2.result = ap₂ (λ (a b : ℕ). ltb 89 (degrees_in a) || ltb 179 (degrees_in b)) (sym c.lat_in-lat.ensures) (sym c.lon_in-lon.ensures) ∙ sym c.either_less-2.ensures in degrees_here) ∙ c.if-either_less-2.true)
+    let closed : eqb (c.args.location % 2) 0 ≡ false = ne_eqb _ _ c.if-location-eq0.false in
+    let hemisphere : other_hemisphere (c.args.location) ≡ c.either_less.result = ap₂ (λ (a b : ℕ). ltb 0 (hemisphere_in a) || ltb 0 (hemisphere_in b)) (sym c.lat_in-lat.ensures) (sym c.lon_in-lon.ensures) ∙ sym c.either_less.ensures in
+    let own_hemisphere : other_hemisphere (c.args.location) ≡ false = hemisphere ∙ c.if-either_less.false in
+    let degrees : past_degrees (c.args.location) ≡ c.either_less-2.result = ap₂ (λ (a b : ℕ). ltb 89 (degrees_in a) || ltb 179 (degrees_in b)) (sym c.lat_in-lat.ensures) (sym c.lon_in-lon.ensures) ∙ sym c.either_less-2.ensures in
+    rw (closed, own_hemisphere, degrees ∙ c.if-either_less-2.true)
 
 pub returns-then-past_59 : goal.returns-then-past_59
 unfolding reading_numbers location_checks
 returns-then-past_59 c =
-    let sixty = either_left (past59 (lon_in (c.args.location))) ((let sixty_lat_here : past59 (lat_in (c.args.location)) ≡ c.past_59.result = ap past59 (sym c.lat_in-lat.ensures) ∙ sym c.past_59.ensures in sixty_lat_here) ∙ c.if-past_59.true) in
-    rw ((let closed_here : eqb (c.args.location % 2) 0 ≡ false = ne_eqb _ _ c.if-location-eq0.false in closed_here), (let own_hemisphere_here : other_hemisphere (c.args.location) ≡ false = (let hemisphere_here : other_hemisphere (c.args.location) ≡ c.either_less.result = ap₂ (λ (a b : ℕ). ltb 0 (hemisphere_in a) || ltb 0 (hemisphere_in b)) (sym c.lat_in-lat.ensures) (sym c.lon_in-lon.ensures) ∙ sym c.either_less.ensures in hemisphere_here) ∙ c.if-either_less.false in own_hemisphere_here), (let in_degrees_here : past_degrees (c.args.location) ≡ false = (let degrees_here : past_degrees (c.args.location) ≡ c.either_less-2.result = ap₂ (λ (a b : ℕ). ltb 89 (degrees_in a) || ltb 179 (degrees_in b)) (sym c.lat_in-lat.ensures) (sym c.lon_in-lon.ensures) ∙ sym c.either_less-2.ensures in degrees_here) ∙ c.if-either_less-2.false in in_degrees_here), sixty)
+    let sixty_lat : past59 (lat_in (c.args.location)) ≡ c.past_59.result = ap past59 (sym c.lat_in-lat.ensures) ∙ sym c.past_59.ensures in
+    let closed : eqb (c.args.location % 2) 0 ≡ false = ne_eqb _ _ c.if-location-eq0.false in
+    let hemisphere : other_hemisphere (c.args.location) ≡ c.either_less.result = ap₂ (λ (a b : ℕ). ltb 0 (hemisphere_in a) || ltb 0 (hemisphere_in b)) (sym c.lat_in-lat.ensures) (sym c.lon_in-lon.ensures) ∙ sym c.either_less.ensures in
+    let own_hemisphere : other_hemisphere (c.args.location) ≡ false = hemisphere ∙ c.if-either_less.false in
+    let degrees : past_degrees (c.args.location) ≡ c.either_less-2.result = ap₂ (λ (a b : ℕ). ltb 89 (degrees_in a) || ltb 179 (degrees_in b)) (sym c.lat_in-lat.ensures) (sym c.lon_in-lon.ensures) ∙ sym c.either_less-2.ensures in
+    let in_degrees : past_degrees (c.args.location) ≡ false = degrees ∙ c.if-either_less-2.false in
+    let sixty = either_left (past59 (lon_in (c.args.location))) (sixty_lat ∙ c.if-past_59.true) in
+    rw (closed, own_hemisphere, in_degrees, sixty)
 
 pub returns-then-past_59-2 : goal.returns-then-past_59-2
 unfolding reading_numbers location_checks
 returns-then-past_59-2 c =
-    let sixty = either_right (past59 (lat_in (c.args.location))) ((let sixty_lon_here : past59 (lon_in (c.args.location)) ≡ c.past_59-2.result = ap past59 (sym c.lon_in-lon.ensures) ∙ sym c.past_59-2.ensures in sixty_lon_here) ∙ c.if-past_59-2.true) in
-    rw ((let closed_here : eqb (c.args.location % 2) 0 ≡ false = ne_eqb _ _ c.if-location-eq0.false in closed_here), (let own_hemisphere_here : other_hemisphere (c.args.location) ≡ false = (let hemisphere_here : other_hemisphere (c.args.location) ≡ c.either_less.result = ap₂ (λ (a b : ℕ). ltb 0 (hemisphere_in a) || ltb 0 (hemisphere_in b)) (sym c.lat_in-lat.ensures) (sym c.lon_in-lon.ensures) ∙ sym c.either_less.ensures in hemisphere_here) ∙ c.if-either_less.false in own_hemisphere_here), (let in_degrees_here : past_degrees (c.args.location) ≡ false = (let degrees_here : past_degrees (c.args.location) ≡ c.either_less-2.result = ap₂ (λ (a b : ℕ). ltb 89 (degrees_in a) || ltb 179 (degrees_in b)) (sym c.lat_in-lat.ensures) (sym c.lon_in-lon.ensures) ∙ sym c.either_less-2.ensures in degrees_here) ∙ c.if-either_less-2.false in in_degrees_here), sixty)
+    let sixty_lon : past59 (lon_in (c.args.location)) ≡ c.past_59-2.result = ap past59 (sym c.lon_in-lon.ensures) ∙ sym c.past_59-2.ensures in
+    let closed : eqb (c.args.location % 2) 0 ≡ false = ne_eqb _ _ c.if-location-eq0.false in
+    let hemisphere : other_hemisphere (c.args.location) ≡ c.either_less.result = ap₂ (λ (a b : ℕ). ltb 0 (hemisphere_in a) || ltb 0 (hemisphere_in b)) (sym c.lat_in-lat.ensures) (sym c.lon_in-lon.ensures) ∙ sym c.either_less.ensures in
+    let own_hemisphere : other_hemisphere (c.args.location) ≡ false = hemisphere ∙ c.if-either_less.false in
+    let degrees : past_degrees (c.args.location) ≡ c.either_less-2.result = ap₂ (λ (a b : ℕ). ltb 89 (degrees_in a) || ltb 179 (degrees_in b)) (sym c.lat_in-lat.ensures) (sym c.lon_in-lon.ensures) ∙ sym c.either_less-2.ensures in
+    let in_degrees : past_degrees (c.args.location) ≡ false = degrees ∙ c.if-either_less-2.false in
+    let sixty = either_right (past59 (lat_in (c.args.location))) (sixty_lon ∙ c.if-past_59-2.true) in
+    rw (closed, own_hemisphere, in_degrees, sixty)
 
 pub returns : goal.returns
 unfolding location_checks
 returns c =
+    let sixty_lat : past59 (lat_in (c.args.location)) ≡ c.past_59.result = ap past59 (sym c.lat_in-lat.ensures) ∙ sym c.past_59.ensures in
+    let sixty_lon : past59 (lon_in (c.args.location)) ≡ c.past_59-2.result = ap past59 (sym c.lon_in-lon.ensures) ∙ sym c.past_59-2.ensures in
+    let closed : eqb (c.args.location % 2) 0 ≡ false = ne_eqb _ _ c.if-location-eq0.false in
+    let hemisphere : other_hemisphere (c.args.location) ≡ c.either_less.result = ap₂ (λ (a b : ℕ). ltb 0 (hemisphere_in a) || ltb 0 (hemisphere_in b)) (sym c.lat_in-lat.ensures) (sym c.lon_in-lon.ensures) ∙ sym c.either_less.ensures in
+    let own_hemisphere : other_hemisphere (c.args.location) ≡ false = hemisphere ∙ c.if-either_less.false in
+    let degrees : past_degrees (c.args.location) ≡ c.either_less-2.result = ap₂ (λ (a b : ℕ). ltb 89 (degrees_in a) || ltb 179 (degrees_in b)) (sym c.lat_in-lat.ensures) (sym c.lon_in-lon.ensures) ∙ sym c.either_less-2.ensures in
+    let in_degrees : past_degrees (c.args.location) ≡ false = degrees ∙ c.if-either_less-2.false in
+    let located : (run (location_checks (c.args.location))).number ≡ 0 = let sixty = none_of (sixty_lat ∙ c.if-past_59.false) (sixty_lon ∙ c.if-past_59-2.false) in rw (closed, own_hemisphere, in_degrees, sixty) in
     let a = c.args in
     c.read_fields.ensures
     ∙ ap (λ (f : Fields). told_where (run (span_checks f)) f) c.fields_in.ensures
-    ∙ sym (location_then a.location a.rest ((let located_here : (run (location_checks (c.args.location))).number ≡ 0 = let sixty = none_of ((let sixty_lat_here : past59 (lat_in (c.args.location)) ≡ c.past_59.result = ap past59 (sym c.lat_in-lat.ensures) ∙ sym c.past_59.ensures in sixty_lat_here) ∙ c.if-past_59.false) ((let sixty_lon_here : past59 (lon_in (c.args.location)) ≡ c.past_59-2.result = ap past59 (sym c.lon_in-lon.ensures) ∙ sym c.past_59-2.ensures in sixty_lon_here) ∙ c.if-past_59-2.false) in rw ((let closed_here : eqb (c.args.location % 2) 0 ≡ false = ne_eqb _ _ c.if-location-eq0.false in closed_here), (let own_hemisphere_here : other_hemisphere (c.args.location) ≡ false = (let hemisphere_here : other_hemisphere (c.args.location) ≡ c.either_less.result = ap₂ (λ (a b : ℕ). ltb 0 (hemisphere_in a) || ltb 0 (hemisphere_in b)) (sym c.lat_in-lat.ensures) (sym c.lon_in-lon.ensures) ∙ sym c.either_less.ensures in hemisphere_here) ∙ c.if-either_less.false in own_hemisphere_here), (let in_degrees_here : past_degrees (c.args.location) ≡ false = (let degrees_here : past_degrees (c.args.location) ≡ c.either_less-2.result = ap₂ (λ (a b : ℕ). ltb 89 (degrees_in a) || ltb 179 (degrees_in b)) (sym c.lat_in-lat.ensures) (sym c.lon_in-lon.ensures) ∙ sym c.either_less-2.ensures in degrees_here) ∙ c.if-either_less-2.false in in_degrees_here), sixty) in located_here)))
+    ∙ sym (location_then a.location a.rest located)

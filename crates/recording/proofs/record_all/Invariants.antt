@@ -1,5 +1,5 @@
 -- `recording::record_all` meets its contract. The loop's invariant is `Taking` twice, for the records and for what is told, whose laws are in
--- output/specs/Taking.antt. Assumes nothing.
+-- output/specs/Replying.antt. Assumes nothing.
 use Rattle.std.proofs.Common.{◌≡◌, ◌-◌, length}
 use Rattle.lines.specs.Answers.{always}
 use Rattle.output.specs.Taking.{Taking}

@@ -15,7 +15,8 @@ returns-then-span-eq0 c =
 
 pub overflow_mul-result : goal.overflow_mul-result
 overflow_mul-result c =
-    omega (arith, (let most_here : (c.args.span - 1) * c.size.result ≤ (2 ^ 32 - 1) * (2 ^ 32 - 1) = mul-le-mul {n₁ = c.args.span - 1} {m₁ = c.size.result} {n₂ = 2 ^ 32 - 1} {m₂ = 2 ^ 32 - 1} (search rules) (search rules) in most_here))
+    let most : (c.args.span - 1) * c.size.result ≤ (2 ^ 32 - 1) * (2 ^ 32 - 1) = mul-le-mul {n₁ = c.args.span - 1} {m₁ = c.size.result} {n₂ = 2 ^ 32 - 1} {m₂ = 2 ^ 32 - 1} (search rules) (search rules) in
+    omega (arith, most)
 
 pub returns : goal.returns
 returns c = ap (λ (s : ℕ). (c.args.span - 1) * s) c.size.ensures

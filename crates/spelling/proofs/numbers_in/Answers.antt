@@ -1,5 +1,4 @@
 -- `spelling::numbers_in` meets its contract: length and letters are refused first, and what twenty letters spell fits. Assumes nothing.
--- where both checks pass, the text is twenty letters
 use Prim.Native.Nat.{ℕ, ◌≤◌, ◌<◌}
 use mathlib.Core.Path.{ap₂, subst, sym, ◌∙◌}
 use lib.ListN.{length}
@@ -24,5 +23,6 @@ returns-then-other-text c =
 
 pub returns : goal.returns
 returns c =
-    let t = (let twenty_letters_here : TwentyLetters (c.args.text.now) = let t = c.args.text.now in record { twenty = c.if-text-ne20.false; word = first_word t (subst (λ (k : ℕ). length t ≤ k) c.first_other-other.ensures c.if-other-text.false) } in twenty_letters_here) in
+    let twenty_letters : TwentyLetters (c.args.text.now) = let t = c.args.text.now in record { twenty = c.if-text-ne20.false; word = first_word t (subst (λ (k : ℕ). length t ≤ k) c.first_other-other.ensures c.if-other-text.false) } in
+    let t = twenty_letters in
     ap₂ two_numbers (c.number.ensures ∙ location_low t) (c.number-2.ensures ∙ rest_low t) ∙ sym (letters_spell t)

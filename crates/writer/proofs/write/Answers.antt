@@ -1,5 +1,4 @@
 -- `writer::write` meets its contract: the room is refused first, then the fields, and good fields are two numbers spelled. Assumes nothing.
--- where no check refuses, the fields are good
 use Prim.Native.Nat.{◌≤◌}
 use mathlib.Core.Path.{ap, ap₂, sym, ◌∙◌}
 use lib.ListN.{length}
@@ -25,15 +24,17 @@ returns-then-written_number-ne0 c =
 
 pub rest_of-requires : goal.rest_of-requires
 rest_of-requires c =
-    (let good_here : Good c.args.fields = let a = c.args in fields_passed a.fields (ap (λ (s : Said). s.number) (sym c.checks-answer.ensures) ∙ sym c.written_number.ensures ∙ c.if-written_number-ne0.false) in good_here)
+    let good : Good c.args.fields = let a = c.args in fields_passed a.fields (ap (λ (s : Said). s.number) (sym c.checks-answer.ensures) ∙ sym c.written_number.ensures ∙ c.if-written_number-ne0.false) in
+    good
 
 pub returns : goal.returns
 unfolding code_of
 returns c =
+    let good : Good c.args.fields = let a = c.args in fields_passed a.fields (ap (λ (s : Said). s.number) (sym c.checks-answer.ensures) ∙ sym c.written_number.ensures ∙ c.if-written_number-ne0.false) in
     let a = c.args in
     let long : 20 ≤ length a.room.now = search rules in
     ap (leaves Accepted)
     (c.spell.ensures
     ∙ ap₂ (spelled_into a.room.now) c.location_of.ensures c.rest_of.ensures
     ∙ spelled_into_lem (location_of a.fields.reference) (rest_of a.fields) a.room.now long)
-    ∙ sym (good_writing a.room.now a.fields long ((let good_here : Good c.args.fields = let a = c.args in fields_passed a.fields (ap (λ (s : Said). s.number) (sym c.checks-answer.ensures) ∙ sym c.written_number.ensures ∙ c.if-written_number-ne0.false) in good_here)))
+    ∙ sym (good_writing a.room.now a.fields long good)

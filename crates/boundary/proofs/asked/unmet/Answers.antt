@@ -1,5 +1,4 @@
 -- `boundary::asked::unmet` meets its contract: every edge before the loop misses. Assumes nothing.
--- what is told of the edge at the loop's place
 use borrow.Author.Rules.{rules}
 use Prim.Native.Nat.{◌-◌}
 use mathlib.Core.Path.{◌≡◌, ap, ap₂, ◌∙◌}
@@ -13,11 +12,13 @@ loop-i-init c = unmet_begin
 
 pub returns-then-not-misses : goal.returns-then-not-misses
 returns-then-not-misses c =
-    search (rules, unmet_met, (let told_here : c.misses.result ≡ misses (edge_in c.args.edges.now c.loop-i.i) c.args.r = c.misses.ensures ∙ ap (λ (e : Edge). misses e c.args.r) (ap₂ edge c.corner.ensures c.corner-in-loop-i.ensures) in told_here))
+    let told : c.misses.result ≡ misses (edge_in c.args.edges.now c.loop-i.i) c.args.r = c.misses.ensures ∙ ap (λ (e : Edge). misses e c.args.r) (ap₂ edge c.corner.ensures c.corner-in-loop-i.ensures) in
+    search (rules, unmet_met, told)
 
 pub loop-i-preserved : goal.loop-i-preserved
 loop-i-preserved c =
-    search (rules, unmet_again, (let told_here : c.misses.result ≡ misses (edge_in c.args.edges.now c.loop-i.i) c.args.r = c.misses.ensures ∙ ap (λ (e : Edge). misses e c.args.r) (ap₂ edge c.corner.ensures c.corner-in-loop-i.ensures) in told_here))
+    let told : c.misses.result ≡ misses (edge_in c.args.edges.now c.loop-i.i) c.args.r = c.misses.ensures ∙ ap (λ (e : Edge). misses e c.args.r) (ap₂ edge c.corner.ensures c.corner-in-loop-i.ensures) in
+    search (rules, unmet_again, told)
 
 pub returns : goal.returns
 returns c = unmet_end c.loop-i.invariant c.loop-i-test.false

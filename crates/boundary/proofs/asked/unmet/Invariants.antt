@@ -1,5 +1,4 @@
 -- `boundary::asked::unmet` meets its contract: every edge before the loop misses. Assumes nothing.
--- what is told of the edge at the loop's place
 use Prim.Native.Nat.{◌-◌, ◌/◌}
 use lib.ListN.{length}
 use Rattle.edge.specs.Edge.{edge}

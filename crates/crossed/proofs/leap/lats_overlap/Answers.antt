@@ -1,5 +1,4 @@
 -- `crossed::leap::lats_overlap` meets its contract: the place after one of so many is one of them. Assumes nothing.
--- The place after is one of the places
 use Prim.Native.Nat.{◌*◌, ◌/◌, ◌<◌}
 use mathlib.Core.Path.{ap, sym, subst, ◌∙◌}
 use lib.ListN.{length, get_or}
@@ -10,15 +9,18 @@ use Rattle.crossed.proofs.leap.lats_overlap.Goals as goal
 
 pub overflow_mul-after : goal.overflow_mul-after
 overflow_mul-after c =
-    search (rules, (let within_here : c.place_after-after.result < length c.args.numbers.now / 2 = subst (λ i. i < length c.args.numbers.now / 2) (sym c.place_after-after.ensures) (after_within (length c.args.numbers.now / 2) c.args.j c.requires) in within_here))
+    let within : c.place_after-after.result < length c.args.numbers.now / 2 = subst (λ i. i < length c.args.numbers.now / 2) (sym c.place_after-after.ensures) (after_within (length c.args.numbers.now / 2) c.args.j c.requires) in
+    search (rules, within)
 
 pub offset_bounds-numbers-after : goal.offset_bounds-numbers-after
 offset_bounds-numbers-after c =
-    search (rules, (let within_here : c.place_after-after.result < length c.args.numbers.now / 2 = subst (λ i. i < length c.args.numbers.now / 2) (sym c.place_after-after.ensures) (after_within (length c.args.numbers.now / 2) c.args.j c.requires) in within_here))
+    let within : c.place_after-after.result < length c.args.numbers.now / 2 = subst (λ i. i < length c.args.numbers.now / 2) (sym c.place_after-after.ensures) (after_within (length c.args.numbers.now / 2) c.args.j c.requires) in
+    search (rules, within)
 
 pub bounds-numbers-after : goal.bounds-numbers-after
 bounds-numbers-after c =
-    search (rules, (let within_here : c.place_after-after.result < length c.args.numbers.now / 2 = subst (λ i. i < length c.args.numbers.now / 2) (sym c.place_after-after.ensures) (after_within (length c.args.numbers.now / 2) c.args.j c.requires) in within_here))
+    let within : c.place_after-after.result < length c.args.numbers.now / 2 = subst (λ i. i < length c.args.numbers.now / 2) (sym c.place_after-after.ensures) (after_within (length c.args.numbers.now / 2) c.args.j c.requires) in
+    search (rules, within)
 
 pub returns : goal.returns
 returns c =

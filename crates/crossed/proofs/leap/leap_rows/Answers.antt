@@ -1,5 +1,4 @@
 -- `crossed::leap::leap_rows` meets its contract: those before the loop's place are apart. Assumes nothing.
--- What a scan of the loop's row skips of the edge from place i
 use Prim.Native.Nat.{◌-◌, ◌/◌, ◌≤◌}
 use native.Mathlib.Omega.{arith}
 use mathlib.Core.Path.{ap₂, sym, subst}
@@ -23,7 +22,8 @@ scan_row-found-requires c =
 
 pub returns-then-found-to : goal.returns-then-found-to
 returns-then-found-to c =
-    let inv = c.loop-j.invariant in record { lower_bound = (omega (arith, inv.0, c.scan_row-found.ensures.lower_bound), omega (arith, c.if-found-to.true, c.row_end-to.ensures)); skipped = skipped_on inv.1 ((let scanned_here : Skipped c.args.numbers.now (edge_from c.args.numbers.now c.args.i) c.loop-j.j c.scan_row-found.result = subst (λ (e : Edge). Skipped c.args.numbers.now e c.loop-j.j c.scan_row-found.result) (ap₂ edge c.corner-a.ensures c.end_of-b.ensures) c.scan_row-found.ensures.skipped in scanned_here)) }
+    let scanned : Skipped c.args.numbers.now (edge_from c.args.numbers.now c.args.i) c.loop-j.j c.scan_row-found.result = subst (λ (e : Edge). Skipped c.args.numbers.now e c.loop-j.j c.scan_row-found.result) (ap₂ edge c.corner-a.ensures c.end_of-b.ensures) c.scan_row-found.ensures.skipped in
+    let inv = c.loop-j.invariant in record { lower_bound = (omega (arith, inv.0, c.scan_row-found.ensures.lower_bound), omega (arith, c.if-found-to.true, c.row_end-to.ensures)); skipped = skipped_on inv.1 scanned }
 
 pub loop-j-smaller : goal.loop-j-smaller
 loop-j-smaller c =
@@ -31,12 +31,13 @@ loop-j-smaller c =
 
 pub loop-j-preserved : goal.loop-j-preserved
 loop-j-preserved c =
+    let scanned : Skipped c.args.numbers.now (edge_from c.args.numbers.now c.args.i) c.loop-j.j c.scan_row-found.result = subst (λ (e : Edge). Skipped c.args.numbers.now e c.loop-j.j c.scan_row-found.result) (ap₂ edge c.corner-a.ensures c.end_of-b.ensures) c.scan_row-found.ensures.skipped in
     let a = c.args in
     let to = c.row_end-to.result in
     let past : a.from ≤ to = omega (arith, c.loop-j.invariant.0, c.row_end-to.ensures, c.loop-j-test.true) in (
       omega (arith, c.ahead-j-in-loop-j.ensures, past),
       skipped_on c.loop-j.invariant.1
-          (skipped_on (skipped_less ((let scanned_here : Skipped c.args.numbers.now (edge_from c.args.numbers.now c.args.i) c.loop-j.j c.scan_row-found.result = subst (λ (e : Edge). Skipped c.args.numbers.now e c.loop-j.j c.scan_row-found.result) (ap₂ edge c.corner-a.ensures c.end_of-b.ensures) c.scan_row-found.ensures.skipped in scanned_here)) to c.if-found-to.false)
+          (skipped_on (skipped_less scanned to c.if-found-to.false)
           (subst (Skipped a.numbers.now (edge_from a.numbers.now a.i) to) (sym c.ahead-j-in-loop-j.ensures)
           (skipped_ahead c.requires.near_row (omega (arith, c.requires.i_lt_from)) to (omega (arith, c.requires.i_lt_from, past))))),
     )

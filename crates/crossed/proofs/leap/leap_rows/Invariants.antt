@@ -1,5 +1,4 @@
 -- `crossed::leap::leap_rows` meets its contract: those before the loop's place are apart. Assumes nothing.
--- What a scan of the loop's row skips of the edge from place i
 use Prim.Native.Nat.{◌-◌, ◌/◌, ◌≤◌}
 use lib.ListN.{length}
 use Rattle.edge.specs.Edge.{edge}

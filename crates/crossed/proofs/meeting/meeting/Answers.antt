@@ -1,5 +1,4 @@
 -- `crossed::meeting::meeting` meets its contract: an edge of no length meets none. Assumes nothing.
--- the first has a length
 use mathlib.Core.Path.{◌≡◌, sym, ◌∙◌}
 use mathlib.Core.Bool.{false}
 use borrow.Author.Tests.{not-true, not-false}
@@ -20,7 +19,8 @@ returns-then-not-has_length-2 c =
 
 pub returns : goal.returns
 returns c =
+    let first : no_length (edge_from c.args.numbers.now c.args.i) ≡ false = not-true _ (sym c.has_length.ensures ∙ c.if-not-has_length.false) in
     let a = c.args in
     c.meet.ensures
-    ∙ meeting_so a.numbers.now a.i a.j ((let first_here : no_length (edge_from c.args.numbers.now c.args.i) ≡ false = not-true _ (sym c.has_length.ensures ∙ c.if-not-has_length.false) in first_here))
+    ∙ meeting_so a.numbers.now a.i a.j first
     (not-true _ (sym c.has_length-2.ensures ∙ c.if-not-has_length-2.false))

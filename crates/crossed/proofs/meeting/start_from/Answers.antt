@@ -13,6 +13,7 @@ loop-i-init c = refl
 
 pub returns-then-has_length : goal.returns-then-has_length
 returns-then-has_length c =
+    
     let a = c.args in
     sym
     (c.loop-i.invariant

@@ -1,6 +1,4 @@
 -- `crossed::rows::list_near` meets its contract: all is told of the rows behind the loop, from the last back. Assumes nothing.
--- what is told of the row at the loop's place
--- the room is as long as it was
 use Prim.Native.Nat.{◌-◌}
 use lib.ListN.{length}
 use Rattle.crossed.specs.NearRows.{Nearing}

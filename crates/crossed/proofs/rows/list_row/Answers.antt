@@ -1,5 +1,4 @@
 -- `crossed::rows::list_row` meets its contract: the extents so far hold the edges before the loop. Assumes nothing.
--- what is listed once the row is put
 use Prim.Native.Nat.{ℕ, ◌+◌, ◌-◌, ◌*◌}
 use mathlib.Core.Path.{◌≡◌, sym, ap, ap₂, subst, ◌∙◌}
 use mathlib.Core.List.{List}
@@ -27,9 +26,11 @@ loop-i-preserved c =
 
 pub shape_of-extents : goal.shape_of-extents
 shape_of-extents c =
-    ((let listed_here : let a = c.args in (length c.put_edge.new.room ≡ length a.extents.now) × RowsTo a.numbers.now c.put_edge.new.room (a.row + 1) = let a = c.args in let d = edge c.loop-i.south_west c.loop-i.north_east in (ap length c.put_edge.ensures ∙ with_length_lem a.extents.now a.row d, subst (λ (room : List ℕ). RowsTo a.numbers.now room (a.row + 1)) (sym c.put_edge.ensures) (row_listed c.requires.rows_to c.requires.row_in_bounds_2 c.row_end-to.ensures c.loop-i-test.false c.loop-i.invariant)) in listed_here)).0
+    let listed : let a = c.args in (length c.put_edge.new.room ≡ length a.extents.now) × RowsTo a.numbers.now c.put_edge.new.room (a.row + 1) = let a = c.args in let d = edge c.loop-i.south_west c.loop-i.north_east in (ap length c.put_edge.ensures ∙ with_length_lem a.extents.now a.row d, subst (λ (room : List ℕ). RowsTo a.numbers.now room (a.row + 1)) (sym c.put_edge.ensures) (row_listed c.requires.rows_to c.requires.row_in_bounds_2 c.row_end-to.ensures c.loop-i-test.false c.loop-i.invariant)) in
+    listed.0
 
 pub returns : goal.returns
 returns c =
-    let whole = (let listed_here : let a = c.args in (length c.put_edge.new.room ≡ length a.extents.now) × RowsTo a.numbers.now c.put_edge.new.room (a.row + 1) = let a = c.args in let d = edge c.loop-i.south_west c.loop-i.north_east in (ap length c.put_edge.ensures ∙ with_length_lem a.extents.now a.row d, subst (λ (room : List ℕ). RowsTo a.numbers.now room (a.row + 1)) (sym c.put_edge.ensures) (row_listed c.requires.rows_to c.requires.row_in_bounds_2 c.row_end-to.ensures c.loop-i-test.false c.loop-i.invariant)) in listed_here) in
+    let listed : let a = c.args in (length c.put_edge.new.room ≡ length a.extents.now) × RowsTo a.numbers.now c.put_edge.new.room (a.row + 1) = let a = c.args in let d = edge c.loop-i.south_west c.loop-i.north_east in (ap length c.put_edge.ensures ∙ with_length_lem a.extents.now a.row d, subst (λ (room : List ℕ). RowsTo a.numbers.now room (a.row + 1)) (sym c.put_edge.ensures) (row_listed c.requires.rows_to c.requires.row_in_bounds_2 c.row_end-to.ensures c.loop-i-test.false c.loop-i.invariant)) in
+    let whole = listed in
     record { extents_len_unchanged = whole.0; rows_to_2 = whole.1 }

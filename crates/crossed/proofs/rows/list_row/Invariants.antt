@@ -1,5 +1,4 @@
 -- `crossed::rows::list_row` meets its contract: the extents so far hold the edges before the loop. Assumes nothing.
--- what is listed once the row is put
 use Prim.Native.Nat.{◌-◌, ◌*◌}
 use Rattle.edge.specs.Edge.{edge}
 use Rattle.crossed.specs.Rows.{Row}

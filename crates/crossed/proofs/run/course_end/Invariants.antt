@@ -1,5 +1,4 @@
 -- `crossed::run::course_end` meets its contract: every edge before the loop's place goes on the course. Assumes nothing.
--- in the loop the edges before its place go on the course
 use Prim.Native.Nat.{◌-◌, ◌/◌, min}
 use lib.ListN.{length}
 use Rattle.crossed.specs.Runs.{Going}

@@ -1,5 +1,4 @@
 -- `crossed::run::past_next` meets its contract: one edge, or two on one course. Assumes nothing.
--- where the way over the corners keeps to a course, the two edges do not meet
 use Prim.Native.Nat.{◌+◌, ◌/◌, ◌<◌}
 use native.Mathlib.Omega.{arith}
 use mathlib.Core.Path.{◌≡◌, ap₂, ◌∙◌, sym}

@@ -1,5 +1,4 @@
 -- `crossed::search::search` meets its contract: edges before the place are tried, and later ones before the other passed. Assumes nothing.
--- the rooms for rows keep their lengths
 use Prim.Native.Nat.{◌-◌}
 use native.Mathlib.Omega.{arith}
 use mathlib.Core.Path.{refl, sym, subst, ◌∙◌}
@@ -18,7 +17,8 @@ run_on-run-requires c = record { i_in_bounds = c.if-count-i.false; free = c.edge
 
 pub renew-requires : goal.renew-requires
 renew-requires c =
-    record { i_in_bounds = c.if-count-i.false; rooms = (let rooms_here : Rooms c.args.numbers.now c.args.extents.now (length c.edges.near) = subst (Rooms c.args.numbers.now c.args.extents.now) (sym c.edges.invariant.1) c.requires in rooms_here); still_near = c.edges.invariant.0.still }
+    let rooms : Rooms c.args.numbers.now c.args.extents.now (length c.edges.near) = subst (Rooms c.args.numbers.now c.args.extents.now) (sym c.edges.invariant.1) c.requires in
+    record { i_in_bounds = c.if-count-i.false; rooms = rooms; still_near = c.edges.invariant.0.still }
 
 pub loop-j-init : goal.loop-j-init
 loop-j-init c =

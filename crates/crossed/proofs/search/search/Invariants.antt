@@ -1,5 +1,4 @@
 -- `crossed::search::search` meets its contract: edges before the place are tried, and later ones before the other passed. Assumes nothing.
--- the rooms for rows keep their lengths
 use Prim.Native.Nat.{◌-◌, ◌/◌}
 use mathlib.Core.Path.{◌≡◌}
 use lib.ListN.{length}

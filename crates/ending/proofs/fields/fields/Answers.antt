@@ -1,6 +1,4 @@
 -- `ending::fields::fields` meets its contract: the fields at the level tried first, or all of them one level coarser. Assumes nothing.
--- the level tried first is one
--- what the fields at the level tried first decide
 use mathlib.Core.Path.{◌≡◌, sym, ◌∙◌}
 use mathlib.Core.Bool.{Bool, cond}
 use Rattle.ground.specs.Levels.{IsLevel}

@@ -1,5 +1,4 @@
 -- `ending::fields::fields_at` meets its contract: each field from its part. Assumes nothing.
--- the level's size
 use Prim.Native.Nat.{◌≤◌}
 use Rattle.ground.specs.Levels.{smallest_size}
 use Rattle.ending.specs.FieldsLaws.{cells_size, fields_made}

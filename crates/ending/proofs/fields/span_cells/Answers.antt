@@ -1,5 +1,4 @@
 -- `ending::fields::span_cells` meets its contract: a size that is not below the smallest keeps the quotient small. Assumes nothing.
--- the quotient is small
 use Prim.Native.Nat.{◌+◌, ◌-◌, ◌/◌, ◌^◌, ◌≤◌}
 use native.Mathlib.Omega.{arith}
 use mathlib.Core.Path.{ap}

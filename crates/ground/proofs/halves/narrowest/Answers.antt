@@ -1,11 +1,8 @@
 -- `ground::halves::narrowest` meets its contract: what whole cells leave, or the size where they leave nothing. Assumes nothing.
--- the size is one to divide by
--- and what whole cells leave is what the function says
 use Prim.Native.Nat.{ℕ, ◌%◌}
 use mathlib.Core.Path.{ap₂, sym, ◌∙◌}
 use borrow.Author.Tests.{eq-eqb}
 use Rattle.ground.specs.Levels.{size_of}
-use Rattle.ground.specs.Cells.{afresh}
 use Rattle.ground.specs.Halves.{narrowest}
 use Rattle.ground.specs.HalvesLaws.{narrow_size, narrow_cut}
 use Rattle.ground.proofs.halves.narrowest.Goals as goal
