@@ -6,8 +6,8 @@ use Rattle.std.proofs.lemmas.Bool.{false≢true}
 use Rattle.facts.specs.Tests.{both, either, either_left, either_right, same_truth}
 use Rattle.ground.specs.declared.Point.{Point}
 use Rattle.ground.specs.declared.Rectangle.{Rectangle}
-use Rattle.ground.specs.Rectangles.{Within, Holds, Ordered, Wide, at}
-use Rattle.ground.specs.RectanglesLaws.{holds_within, wide_ordered}
+use Rattle.ground.specs.Rectangles.{Within, Holds, Ordered, at}
+use Rattle.ground.specs.RectanglesLaws.{holds_within}
 use Rattle.side.specs.Side.{left_sum, right_sum, left_or_on, Leftward}
 use Rattle.edge.specs.Edge.{Edge, edge, no_length, all_left, beyond, misses, strictly_between, strictly_within, end_within}
 use Rattle.facts.specs.Numbers.{Compared, less, same, more, compared, product_le, product_lt, either_way}

@@ -1,8 +1,7 @@
 -- A point on an edge: the sides of the edge are those of its two parts, and its odd count is that of the two together. Assumes nothing.
-use Rattle.std.specs.Prelude.{ℕ, ◌+◌, ◌*◌, ◌≤◌, ◌<◌, min, max, ◌≡◌, refl, ◌⊎◌, Bool, true, false, not, ◌&&◌, ◌||◌, leb, ltb}
-use Rattle.std.proofs.Common.{arith, ap, ap₂, ◌∙◌, inl, inr, leb-true, leb-false, ltb-true, lt-ltb, le-leb}
+use Rattle.std.specs.Prelude.{ℕ, ◌+◌, ◌*◌, ◌≤◌, ◌<◌, ◌≡◌, refl, ◌⊎◌, Bool, true, false, not, ◌&&◌, ◌||◌, leb, ltb}
+use Rattle.std.proofs.Common.{arith, ap, ap₂, ◌∙◌, inl, inr, leb-true, leb-false, ltb-true, lt-ltb}
 use Rattle.std.proofs.Math.Path.{sym}
-use Rattle.std.proofs.Math.Bool.{or_comm}
 use Rattle.facts.specs.Tests.{differ, differ_false, same_truth}
 use Rattle.facts.specs.Numbers.{product_le, product_lt, either_way}
 use Rattle.ground.specs.declared.Point.{Point}

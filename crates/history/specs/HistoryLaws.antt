@@ -11,7 +11,7 @@ use Rattle.places.specs.Places.{count_active}
 use Rattle.entitlements.specs.declared.Account.{Account}
 use Rattle.entitlements.specs.declared.Answered.{Answered}
 use Rattle.entitlements.specs.declared.Kind.{Kind}
-use Rattle.entitlements.specs.Entitlements.{empty, is_active, Done, message, processing}
+use Rattle.entitlements.specs.Entitlements.{empty, is_active, Done, processing}
 use Rattle.entitlements.specs.Active.{same_code_lem}
 use Rattle.entitlements.specs.Sound.{Sound, empty_sound, empty_active, empty_count, message_processing}
 use Rattle.entitlements.specs.Changes.{taken_active, taken_count, cleared_active, cleared_count}

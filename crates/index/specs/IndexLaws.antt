@@ -1,6 +1,6 @@
 -- The laws of an index: each case of looking up and of noting; and the slots that find each code's place, which hold of the empty account
 -- and stay so when a code takes a place, when a place is cleared and when a number is used up. Assumes nothing.
-use Rattle.std.specs.Prelude.{ℕ, ◌≤◌, ◌<◌, ◌≡◌, ◌⊎◌, ◌≢◌, true, cond, ◌&&◌, List, eqb, ltb, length}
+use Rattle.std.specs.Prelude.{ℕ, ◌≤◌, ◌<◌, ◌≡◌, ◌⊎◌, true, cond, ◌&&◌, List, ltb, length}
 use Rattle.std.proofs.Common.{arith, ap₂, sym, ◌∙◌, inl, inr, true≢false, length-set, get_or-set_same, get_or-set_other, eq-eqb, lt-ltb, le-ltb, ltb-true, ltb-false}
 use Rattle.std.proofs.Math.Decide.{ℕ_discrete}
 use Rattle.std.proofs.Math.Path.{refl, ap, subst}
@@ -11,7 +11,7 @@ use Rattle.halves.specs.declared.Halves.{Halves}
 use Rattle.places.specs.Places.{places, holds, lowest_place}
 use Rattle.places.specs.PlacesLaws.{lowest_most, lowest_passes, lowest_least}
 use Rattle.entitlements.specs.declared.Account.{Account}
-use Rattle.entitlements.specs.Entitlements.{empty, code_at, active_at, place_of, is_active, free_place, is_full, used, put_at, raised, lowered, taken, zeros, cleared}
+use Rattle.entitlements.specs.Entitlements.{empty, code_at, active_at, place_of, is_active, free_place, is_full, used, raised, lowered, taken, zeros, cleared}
 use Rattle.entitlements.specs.Active.{holds_at, place_active, free_within}
 use Rattle.entitlements.specs.Sound.{Sized, empty_inactive}
 use Rattle.entitlements.specs.Changes.{placed_active, placed_code, other_active, other_code}

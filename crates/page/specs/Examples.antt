@@ -2,7 +2,7 @@
 use Rattle.std.specs.Prelude.{ℕ, ◌≡◌, refl, List, ◌++◌, drop}
 use Rattle.facts.specs.Texts.{bytes}
 use Rattle.entitlements.specs.declared.Kind.TheVariants.{Cancel}
-use Rattle.page.specs.Page.{record_of, mark_of, mark, letter_in, code_of, number_text, found_in, look_at, refusal_of}
+use Rattle.page.specs.Page.{record_of, found_in, look_at, refusal_of}
 
 -- The record of `C 17 0W7ARC7M6KYTAC890003`
 abbrev example : List ℕ

@@ -9,7 +9,6 @@ use Rattle.letters.specs.Letters.{letters, spelled_in, number_in}
 use Rattle.halves.specs.declared.Halves.{Halves}
 use Rattle.halves.specs.Halves.{halves_in, readable}
 use Rattle.entitlements.specs.declared.Kind.{Kind}
-use Rattle.entitlements.specs.declared.Kind.TheVariants.{Activate, Cancel}
 use Rattle.entitlements.specs.Entitlements.{largest, letter_of, kind_of}
 use Rattle.page.specs.declared.Written.{Written}
 use Rattle.page.specs.declared.Written.TheVariants as written

@@ -21,7 +21,7 @@ use Rattle.halves.specs.Halves.{halves_in, readable, code_in}
 use Rattle.halves.specs.HalvesLaws.{readable_code, code_refused, code_read}
 use Rattle.entitlements.specs.declared.Kind.{Kind}
 use Rattle.entitlements.specs.declared.Kind.TheVariants.{Activate, Cancel}
-use Rattle.entitlements.specs.Entitlements.{largest, letter_of, kind_of, kind_letter}
+use Rattle.entitlements.specs.Entitlements.{largest, letter_of, kind_of}
 use Rattle.room.specs.Room.{Put}
 use Rattle.room.specs.RoomLaws.{put_first}
 use Rattle.page.specs.declared.Written.{Written}
@@ -29,30 +29,7 @@ use Rattle.page.specs.declared.Written.TheVariants as written
 use Rattle.page.specs.declared.Record.{Record}
 use Rattle.page.specs.declared.Found.{Found}
 use Rattle.page.specs.declared.Found.TheVariants as found
-use Rattle.page.specs.Page.{
-  record_length,
-  mark,
-  record_of,
-  letter_in,
-  code_of,
-  number_text,
-  stretch_at,
-  write_checks,
-  outcome_by,
-  writing,
-  writing_at,
-  leaves,
-  mark_wrong,
-  is_kind,
-  number_wrong,
-  content_wrong,
-  record_by,
-  record_in,
-  found_in,
-  look_at,
-  where_found,
-  code_at,
-}
+use Rattle.page.specs.Page.{record_length, record_of, letter_in, code_of, number_text, stretch_at, write_checks, outcome_by, writing, writing_at, leaves, mark_wrong, is_kind, number_wrong, content_wrong, record_by, record_in, found_in, look_at, code_at}
 use Rattle.page.specs.Known.{same_as, code_by, with_code, found_with, look_with}
 
 -- ---- a record

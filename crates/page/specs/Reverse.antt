@@ -1,18 +1,18 @@
 -- Writing a record and reading it are each the other's reverse, and writing changes no byte beside the record. Assumes nothing.
-use Rattle.std.specs.Prelude.{ℕ, ◌+◌, ◌-◌, ◌^◌, ◌≤◌, ◌<◌, ◌≡◌, Bool, cond, ◌||◌, eqb, ltb, get_or, drop}
-use Rattle.std.proofs.Common.{arith, sym, ◌∙◌, subst, true≢false, length-take, length-drop, take-append-drop, drop_at, drop-drop, take-add, length-take-le}
+use Rattle.std.specs.Prelude.{ℕ, ◌+◌, ◌-◌, ◌≤◌, ◌≡◌, Bool, eqb, ltb, drop}
+use Rattle.std.proofs.Common.{arith, sym, ◌∙◌, subst, length-drop, take-append-drop, drop_at, drop-drop, take-add, length-take-le}
 use Rattle.std.proofs.Math.Path.{refl, ap, ap₂}
 use Rattle.std.proofs.Math.Bool.{true, false, not}
-use mathlib.Core.List.{List, [], ◌∷◌, ◌++◌, map, append_assoc, append-nil}
+use mathlib.Core.List.{List, [], ◌∷◌, ◌++◌, map, append_assoc}
 use Rattle.std.proofs.Math.ListN.{length, take, length-append}
 use Rattle.std.proofs.Math.Seq.{take_at}
-use borrow.Author.Tests.{eq-eqb, ne_eqb, eqb-true, eqb-false, le-ltb, ltb-false, not-false}
+use borrow.Author.Tests.{ne_eqb, eqb-true, eqb-false, le-ltb, ltb-false, not-false}
 use Rattle.facts.specs.Tests.{none_of, neither}
 use Rattle.facts.specs.Texts.{same_text}
-use Rattle.replies.specs.Replies.{accepted, run, Outcome}
+use Rattle.replies.specs.Replies.{accepted, Outcome}
 use Rattle.replies.specs.RepliesLaws.{Passed, passed}
 use Rattle.letters.specs.Alphabet.{first_other, letter_in as letter_for}
-use Rattle.letters.specs.Digits.{digits, digits_are}
+use Rattle.letters.specs.Digits.{digits_are}
 use Rattle.letters.specs.Letters.{letters, spelled_in, number_in}
 use Rattle.letters.specs.Words.{Word, letters_distinct, word_first, word_back, word_values, digits_word, number_spelled}
 use Rattle.halves.specs.Halves.{halves_in, readable}
@@ -22,31 +22,8 @@ use Rattle.entitlements.specs.Entitlements.{largest, letter_of, kind_letter}
 use Rattle.page.specs.declared.Record.{Record}
 use Rattle.page.specs.declared.Found.{Found}
 use Rattle.page.specs.declared.Found.TheVariants as found
-use Rattle.page.specs.Page.{
-  record_length,
-  mark,
-  record_of,
-  mark_of,
-  letter_in,
-  code_of,
-  number_text,
-  stretch_at,
-  write_checks,
-  writing,
-  writing_at,
-  outcome_by,
-  mark_wrong,
-  is_kind,
-  number_wrong,
-  content_wrong,
-  record_by,
-  record_in,
-  found_in,
-  look_at,
-  where_found,
-  code_at,
-}
-use Rattle.page.specs.PageLaws.{record_length_lem, code_twenty, same_text_lem, eight_bytes, Recorded, look_recorded, look_within, recorded_right, Right}
+use Rattle.page.specs.Page.{record_length, mark, record_of, letter_in, code_of, number_text, stretch_at, write_checks, writing, writing_at, outcome_by, mark_wrong, is_kind, number_wrong, content_wrong, record_by, record_in, found_in, look_at, where_found, code_at}
+use Rattle.page.specs.PageLaws.{record_length_lem, code_twenty, same_text_lem, eight_bytes, Recorded, look_recorded, recorded_right}
 
 -- ---- what writing accepts
 

@@ -1,12 +1,11 @@
 -- The laws of codes that were read before: what each slot has is true, and then what is found is what reading finds; remembering a record
 -- that was found keeps it true. Assumes nothing.
-use Rattle.std.specs.Prelude.{◌≡◌, ℕ, zero, suc, ◌+◌, ◌-◌, ◌%◌, ◌^◌, ◌<◌, ◌≤◌, Bool, true, false, cond, ◌⊎◌, List, [], ◌∷◌, length, take, drop, replicate, ◌==◌, ◌≢◌, slice_index, slice_index_or, slice_set, refl}
-use Rattle.std.proofs.Common.{mod-eq_of_lt, arith, ap, ap₂, sym, ◌∙◌, inl, inr, length-set, get_or-set_same, get_or-set_other, drop-drop, eq-eqb, ne_eqb, eqb-true, lt-ltb, le-ltb}
+use Rattle.std.specs.Prelude.{◌≡◌, ℕ, zero, suc, ◌+◌, ◌-◌, ◌^◌, ◌<◌, ◌≤◌, Bool, true, false, ◌⊎◌, List, [], ◌∷◌, length, take, drop, replicate, ◌==◌, ◌≢◌, slice_index, slice_index_or, slice_set, refl}
+use Rattle.std.proofs.Common.{mod-eq_of_lt, arith, ap, sym, ◌∙◌, inl, inr, length-set, get_or-set_same, get_or-set_other, drop-drop, eq-eqb, ne_eqb, eqb-true, lt-ltb, le-ltb}
 use Rattle.std.proofs.lemmas.List.{length-replicate}
 use Rattle.std.proofs.lemmas.Bool.{eqb-false}
 use Rattle.halves.specs.declared.Halves.{Halves}
-use Rattle.halves.specs.declared.Code.{Code}
-use Rattle.halves.specs.declared.Code.TheVariants.{Read, Refused}
+use Rattle.halves.specs.declared.Code.TheVariants.{Read}
 use Rattle.halves.specs.Halves.{halves_by, code_in}
 use Rattle.halves.specs.HalvesLaws.{code_reads}
 use Rattle.page.specs.declared.Record.{Record}

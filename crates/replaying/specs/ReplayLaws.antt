@@ -25,8 +25,7 @@ use Rattle.page.specs.PageLaws.{look_recorded, look_within, recorded_right}
 use Rattle.recall.specs.Recall.{recalled, remembered, after_of}
 use Rattle.recall.specs.RecallLaws.{Recalls, empty_slots, recalls_begin, recalled_look, recalls_note}
 use Rattle.replaying.specs.declared.Counts.{Counts}
-use Rattle.replaying.specs.declared.Replayed.{Replayed}
-use Rattle.replaying.specs.Replay.{message_in, as_found, messages_from, messages_of, stop_of, one_refused, times_refused, counts_of, replayed_by, replayed}
+use Rattle.replaying.specs.Replay.{message_in, as_found, messages_from, messages_of, stop_of, times_refused, counts_of, replayed_by, replayed}
 use Rattle.replaying.specs.Indexing.{noted_step, change_indexed}
 
 -- ---- the messages from an offset on

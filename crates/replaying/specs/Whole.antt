@@ -1,19 +1,17 @@
 -- What replay of a page is: it stops where no record is, which at a clean end is the page's length; and the page that records of messages
 -- make end to end is replayed as these messages, so that a journal and its replay give the account of sending them. Assumes nothing.
 use Rattle.std.specs.Prelude.{◌≡◌, ℕ, zero, suc, ◌+◌, ◌-◌, ◌*◌, ◌/◌, ◌<◌, ◌≤◌, Bool, true, false, cond, List, [], ◌∷◌, ◌++◌, length, ◌==◌, nat_lt, refl}
-use Rattle.std.proofs.Common.{arith, ◌∙◌, true≢false, append-nil, append_assoc, length-append, length-drop, drop_at, drop-drop, eqb-true, eq-eqb, ne_eqb}
+use Rattle.std.proofs.Common.{arith, ◌∙◌, true≢false, append-nil, append_assoc, length-append, drop_at, eqb-true, eq-eqb}
 use Rattle.std.proofs.Math.Path.{ap, ap₂, sym}
 use Rattle.facts.specs.Lists.{Each}
-use Rattle.halves.specs.Halves.{halves_in, readable}
+use Rattle.halves.specs.Halves.{readable}
 use Rattle.letters.specs.Letters.{letters, number_in}
 use Rattle.entitlements.specs.declared.Kind.{Kind}
 use Rattle.entitlements.specs.Entitlements.{largest, empty, kind_of, kind_letter}
-use Rattle.history.specs.History.{Message, after, sent, Kept}
-use Rattle.history.specs.HistoryLaws.{kept}
-use Rattle.page.specs.declared.Record.{Record}
+use Rattle.history.specs.History.{Message, after, sent}
 use Rattle.page.specs.declared.Found.{Found}
 use Rattle.page.specs.declared.Found.TheVariants as found
-use Rattle.page.specs.Page.{record_length, record_of, letter_in, code_of, number_text, stretch_at, mark_wrong, content_wrong, record_in, found_in, look_at, refusal_of}
+use Rattle.page.specs.Page.{record_length, record_of, code_of, number_text, stretch_at, mark_wrong, content_wrong, record_in, found_in, look_at, refusal_of}
 use Rattle.page.specs.PageLaws.{record_length_lem, code_twenty, is_record, look_within}
 use Rattle.page.specs.Reverse.{Writable, look_stretch, record_holds, record_found_lem}
 use Rattle.replaying.specs.Replay.{message_in, as_found, messages_from, messages_of, stop_of, counts_of, replayed_by, replayed}

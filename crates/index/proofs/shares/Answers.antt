@@ -1,5 +1,4 @@
 -- `index::shares` meets its contract, test by test. Assumes nothing.
-use lib.Dec.{eqb}
 use borrow.Author.Tests.{eq-eqb, ne_eqb}
 use Rattle.index.proofs.shares.Goals as goal
 

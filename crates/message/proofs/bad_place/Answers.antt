@@ -1,5 +1,4 @@
 -- `message::bad_place` meets its contract: no place below `i` is refused. Assumes nothing.
-use Prim.Native.Nat.{◌-◌}
 use mathlib.Core.Path.{sym, ◌∙◌}
 use borrow.Author.Rules.{rules}
 use Rattle.places.specs.PlacesLaws.{none_begin, none_again}

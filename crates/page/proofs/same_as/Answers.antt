@@ -1,6 +1,5 @@
 -- `page::same_as` meets its contract: texts of other lengths are not the same, and of twenty bytes what is left answers as the whole does.
 -- Assumes nothing.
-use Prim.Native.Nat.{◌-◌}
 use mathlib.Core.Path.{sym}
 use Rattle.page.specs.PageLaws.{same_first, same_second, comparing_begin, comparing_other, comparing_more, comparing_end}
 use borrow.Author.Rules.{rules}

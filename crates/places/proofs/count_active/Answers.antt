@@ -1,5 +1,4 @@
 -- `places::count_active` meets its contract: the places below `i` are counted. Assumes nothing.
-use Prim.Native.Nat.{◌-◌}
 use borrow.Author.Rules.{rules}
 use borrow.Author.Tests.{eq-eqb, ne_eqb}
 use lib.ListN.{get_or}
@@ -14,8 +13,8 @@ pub loop-i-preserved : goal.loop-i-preserved
 loop-i-preserved c =
     let here = get_or c.args.active.now c.loop-i.i 0 in
     elim c.if-active-i-ne0.branch [
-      then-active-i-ne0 w ↦ rw w.count-is (counted_active c.loop-i.invariant (search rules) (ne_eqb here 0 w.if-active-i-ne0.true))
-    | else-active-i-ne0 w ↦ rw w.count-is (counted_free c.loop-i.invariant (search rules) (eq-eqb here 0 w.if-active-i-ne0.false))
+      | then-active-i-ne0 w ↦ rw w.count-is (counted_active c.loop-i.invariant (search rules) (ne_eqb here 0 w.if-active-i-ne0.true))
+      | else-active-i-ne0 w ↦ rw w.count-is (counted_free c.loop-i.invariant (search rules) (eq-eqb here 0 w.if-active-i-ne0.false))
     ]
 
 pub returns : goal.returns

@@ -1,5 +1,4 @@
 -- `places::full_search` meets its contract: the code is active at no place below `i`. Assumes nothing.
-use Prim.Native.Nat.{◌-◌}
 use mathlib.Core.Path.{sym, ◌∙◌}
 use borrow.Author.Rules.{rules}
 use Rattle.places.specs.PlacesLaws.{none_begin, none_again, none_found, none_finish}

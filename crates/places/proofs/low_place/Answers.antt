@@ -1,5 +1,4 @@
 -- `places::low_place` meets its contract: no place below `i` has the half. Assumes nothing.
-use Prim.Native.Nat.{◌-◌}
 use borrow.Author.Rules.{rules}
 use borrow.Author.Tests.{eq-eqb, ne_eqb}
 use lib.ListN.{get_or}

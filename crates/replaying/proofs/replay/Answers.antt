@@ -1,8 +1,7 @@
 -- `replaying::replay` meets its contract. The loop's invariant is `Replaying`; what is found there is a record, and then the loop goes on
 -- behind it, or none. Assumes nothing.
-use Rattle.std.proofs.Common.{◌≡◌, ℕ, ◌-◌, ◌^◌, ◌<◌, List, [], ◌∷◌, length, refl, ◌∙◌, rules}
+use Rattle.std.proofs.Common.{◌≡◌, ℕ, ◌^◌, ◌<◌, List, [], length, refl, ◌∙◌, rules}
 use lib.ListN.{length-replicate}
-use Rattle.entitlements.specs.Entitlements.{account_of}
 use Rattle.index.specs.Index.{slot_count}
 use Rattle.change.specs.ChangeLaws.{stepped_last}
 use Rattle.history.specs.History.{Message}

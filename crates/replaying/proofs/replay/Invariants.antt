@@ -2,7 +2,6 @@
 -- behind it, or none. Assumes nothing.
 use Rattle.std.proofs.Common.{◌-◌, length}
 use Rattle.entitlements.specs.Entitlements.{account_of}
-use Rattle.page.specs.declared.Found.TheVariants as found
 use Rattle.replaying.specs.ReplayLaws.{Replaying}
 use Rattle.replaying.proofs.replay.Given as goal
 
