@@ -1,6 +1,6 @@
 -- Closed lists of edges: what parity needs of a boundary. A boundary's edges close, and a list made of closed ones closes; the odd count is
 -- the same at any two points of ground that no edge of a closed list meets. Assumes nothing.
-use Rattle.std.specs.Prelude.{ℕ, suc, ◌%◌, ◌≤◌, ◌<◌, ◌≡◌, refl, ◌≢◌, Bool, true, false, cond, not, ◌&&◌, eqb}
+use Rattle.std.specs.Prelude.{ℕ, suc, ◌%◌, ◌≤◌, ◌<◌, ◌≡◌, refl, ◌≢◌, Bool, true, false, cond, not, eqb}
 use Rattle.std.proofs.Common.{arith, ap, ap₂, sym, ◌∙◌, eqb-true, eq-eqb, ne_eqb}
 use mathlib.Core.List.{List, [], ◌∷◌, ◌++◌}
 use Rattle.std.proofs.lemmas.Bool.{eqb-false}

@@ -2,8 +2,7 @@
 -- Assumes nothing.
 use Rattle.std.specs.Prelude.{◌≡◌, refl, Bool, true, false, ◌&&◌, List, [], ◌∷◌, ◌++◌}
 use Rattle.std.proofs.Common.{ap, ap₂, ◌∙◌, sym}
-use Rattle.facts.specs.Tests.{differ, differ_assoc, differ_self}
-use Rattle.facts.specs.Lists.{Each, each_all}
+use Rattle.facts.specs.Tests.{differ}
 use Rattle.ground.specs.declared.Point.{Point}
 use Rattle.ground.specs.declared.Rectangle.{Rectangle}
 use Rattle.ground.specs.Rectangles.{Within, Lies, Ordered}
@@ -12,7 +11,7 @@ use Rattle.edge.specs.MissesLaws.{misses_within}
 use Rattle.edge.specs.CrossesLaws.{turns_none}
 use Rattle.boundary.specs.Boundary.{point_inside, unmet}
 use Rattle.boundary.specs.Sums.{total, Sums, and_sums, differ_sums}
-use Rattle.boundary.specs.Closed.{oddly, Closed, inside_odd, odd_differ, even_around}
+use Rattle.boundary.specs.Closed.{oddly, Closed, inside_odd, odd_differ}
 
 -- Edges that are kept of a list for a rectangle: a sum over the list to which an edge that misses the rectangle adds nothing is the sum over
 -- them

@@ -1,7 +1,6 @@
 -- Edges that are listed in a lent room, four numbers an edge: latitude and longitude of its start, then of its end. Assumes nothing.
 use Rattle.std.specs.Prelude.{ℕ, ◌+◌, ◌*◌, ◌/◌, Bool, cond, ◌&&◌, List, [], ◌∷◌, ◌++◌, leb, ltb, eqb, length, drop}
 use Rattle.std.proofs.lemmas.List.Edits.{sets}
-use Rattle.ground.specs.declared.Point.{Point}
 use Rattle.ground.specs.Levels.{lat, lon}
 use Rattle.ground.specs.Rectangles.{at}
 use Rattle.corners.specs.Corners.{corners_of, corner_at}

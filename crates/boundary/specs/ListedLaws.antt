@@ -1,9 +1,9 @@
 -- The laws of edges that are listed in a lent room: how a loop takes them one by one, what putting one leaves, and the walk that lists the
 -- edges of a boundary. Assumes nothing.
 use Prim.Native.Nat.{ℕ, zero, suc, ◌+◌, ◌-◌, ◌*◌, ◌/◌, ◌≤◌, ◌<◌}
-use Rattle.std.proofs.Common.{add-zero, add-one, ap₂, ◌∙◌, sym, subst, length-set, length-append, length-drop, length-take-le, take_at, drop_at, drop-drop, drop-cons, get_or-take, get_or-append-add, lt-ltb, le-ltb, eq-eqb, ne_eqb, le-leb, leb-true}
+use Rattle.std.proofs.Common.{add-one, ap₂, ◌∙◌, sym, subst, length-set, length-append, length-take-le, take_at, drop_at, drop-drop, drop-cons, get_or-take, get_or-append-add, lt-ltb, eq-eqb, ne_eqb, le-leb, leb-true}
 use native.Mathlib.Omega.{arith}
-use Rattle.std.specs.Prelude.{◌≡◌, Bool, true, false, cond, not, ◌&&◌, leb, ltb, eqb, get_or, take, set}
+use Rattle.std.specs.Prelude.{◌≡◌, Bool, true, false, cond, not, ◌&&◌, leb, ltb, get_or, take, set}
 use Rattle.std.proofs.Math.Path.{refl, ap}
 use Rattle.std.specs.Bool.{beq}
 use mathlib.Core.List.{List, [], ◌∷◌, ◌++◌, map, append-nil, append_assoc}

@@ -1,5 +1,4 @@
 -- `boundary::asked::odd_count` meets its contract: the count so far, with that of the edges left, is the whole. Assumes nothing.
-use Prim.Native.Nat.{◌-◌}
 use mathlib.Core.Path.{ap, ap₂, ◌∙◌}
 use Rattle.edge.specs.Edge.{edge, crosses_east}
 use Rattle.boundary.specs.ListedLaws.{odd_begin, odd_again, odd_end}

@@ -1,7 +1,6 @@
 -- `boundary::asked::odd_count` meets its contract: the count so far, with that of the edges left, is the whole. Assumes nothing.
 use Prim.Native.Nat.{◌-◌, ◌/◌}
 use lib.ListN.{length}
-use Rattle.edge.specs.Edge.{edge}
 use Rattle.boundary.specs.ListedLaws.{OddFrom}
 use Rattle.boundary.proofs.asked.odd_count.Given as goal
 

@@ -1,6 +1,5 @@
 -- `boundary::asked::unmet` meets its contract: every edge before the loop misses. Assumes nothing.
 use borrow.Author.Rules.{rules}
-use Prim.Native.Nat.{◌-◌}
 use mathlib.Core.Path.{◌≡◌, ap, ap₂, ◌∙◌}
 use Rattle.edge.specs.Edge.{Edge, edge, misses}
 use Rattle.boundary.specs.Listed.{edge_in}

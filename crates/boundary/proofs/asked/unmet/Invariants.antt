@@ -1,7 +1,6 @@
 -- `boundary::asked::unmet` meets its contract: every edge before the loop misses. Assumes nothing.
 use Prim.Native.Nat.{◌-◌, ◌/◌}
 use lib.ListN.{length}
-use Rattle.edge.specs.Edge.{edge}
 use Rattle.boundary.specs.ListedLaws.{UnmetFrom}
 use Rattle.boundary.proofs.asked.unmet.Given as goal
 

@@ -4,7 +4,7 @@ use mathlib.Core.Path.{refl, ap, ap₂, ◌∙◌}
 use mathlib.Core.Bool.{Bool, cond, ◌&&◌, and-false}
 use lib.Dec.{leb}
 use borrow.Author.Tests.{lt-leb}
-use Prim.Native.Nat.{◌+◌, ◌-◌, ◌/◌}
+use Prim.Native.Nat.{◌+◌, ◌/◌}
 use lib.ListN.{length, set}
 use Rattle.corners.specs.Corners.{corner_at}
 use Rattle.edge.specs.Edge.{Edge, edge, no_length}

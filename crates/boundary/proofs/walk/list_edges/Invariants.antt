@@ -1,7 +1,6 @@
 -- `boundary::walk::list_edges` meets its contract: what is listed so far, with the edges from the places left, is all. Assumes nothing.
 use Prim.Native.Nat.{◌-◌, ◌/◌}
 use lib.ListN.{length}
-use Rattle.edge.specs.Edge.{edge}
 use Rattle.boundary.specs.ListedLaws.{Listing}
 use Rattle.boundary.proofs.walk.list_edges.Given as goal
 

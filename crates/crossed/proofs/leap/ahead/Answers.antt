@@ -1,5 +1,4 @@
 -- `crossed::leap::ahead` meets its contract: by whether there is such a place, and by which is further. Assumes nothing.
-use Prim.Native.Nat.{◌/◌}
 use native.Mathlib.Omega.{arith}
 use lib.ListN.{get_or-eq_default}
 use Rattle.crossed.proofs.leap.ahead.Goals as goal

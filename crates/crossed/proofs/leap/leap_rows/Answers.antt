@@ -1,5 +1,5 @@
 -- `crossed::leap::leap_rows` meets its contract: those before the loop's place are apart. Assumes nothing.
-use Prim.Native.Nat.{◌-◌, ◌/◌, ◌≤◌}
+use Prim.Native.Nat.{◌/◌, ◌≤◌}
 use native.Mathlib.Omega.{arith}
 use mathlib.Core.Path.{ap₂, sym, subst}
 use lib.ListN.{length}

@@ -1,7 +1,6 @@
 -- `crossed::leap::leap_rows` meets its contract: those before the loop's place are apart. Assumes nothing.
 use Prim.Native.Nat.{◌-◌, ◌/◌, ◌≤◌}
 use lib.ListN.{length}
-use Rattle.edge.specs.Edge.{edge}
 use Rattle.boundary.specs.Listed.{edge_from}
 use Rattle.crossed.specs.Leaps.{Skipped}
 use Rattle.crossed.proofs.leap.leap_rows.Given as goal

@@ -1,5 +1,4 @@
 -- `crossed::leap::scan` meets its contract: those before the loop's place are apart. Assumes nothing.
-use Prim.Native.Nat.{◌-◌}
 use native.Mathlib.Omega.{arith}
 use mathlib.Core.Path.{sym, ◌∙◌}
 use Rattle.edge.specs.Edge.{edge}

@@ -1,7 +1,5 @@
 -- `crossed::meeting::start_from` meets its contract: no edge before the loop's place has a length. Assumes nothing.
-use Prim.Native.Nat.{◌-◌}
 use mathlib.Core.Path.{refl, sym, ◌∙◌}
-use lib.ListN.{length}
 use borrow.Author.Tests.{not-true, not-false}
 use Rattle.edge.specs.Edge.{no_length}
 use Rattle.boundary.specs.Listed.{edge_from}

@@ -1,7 +1,7 @@
 -- `crossed::rows::list_near` meets its contract: all is told of the rows behind the loop, from the last back. Assumes nothing.
 use Prim.Native.Nat.{◌-◌, ◌*◌}
 use mathlib.Core.Path.{◌≡◌, sym, ap, ap₂, ◌∙◌}
-use lib.ListN.{length, length-set}
+use lib.ListN.{length-set}
 use Rattle.edge.specs.Edge.{Edge, edge}
 use Rattle.boundary.specs.Listed.{edge_in}
 use Rattle.crossed.specs.Rows.{row_apart}

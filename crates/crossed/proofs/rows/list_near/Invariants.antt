@@ -1,5 +1,4 @@
 -- `crossed::rows::list_near` meets its contract: all is told of the rows behind the loop, from the last back. Assumes nothing.
-use Prim.Native.Nat.{◌-◌}
 use lib.ListN.{length}
 use Rattle.crossed.specs.NearRows.{Nearing}
 use Rattle.crossed.proofs.rows.list_near.Given as goal

@@ -1,5 +1,4 @@
 -- `crossed::rows::list_rows` meets its contract: the rows before the loop are listed. Assumes nothing.
-use Prim.Native.Nat.{◌-◌}
 use Rattle.crossed.specs.Rows.{rowing_begin, rowing_again, rowing_end}
 use Rattle.crossed.proofs.rows.list_rows.Goals as goal
 

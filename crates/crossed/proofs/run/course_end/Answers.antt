@@ -1,5 +1,5 @@
 -- `crossed::run::course_end` meets its contract: every edge before the loop's place goes on the course. Assumes nothing.
-use Prim.Native.Nat.{◌+◌, ◌-◌, ◌/◌, min}
+use Prim.Native.Nat.{◌+◌, ◌/◌, min}
 use native.Mathlib.Omega.{arith}
 use mathlib.Core.Path.{◌≡◌, ap₂, ◌∙◌, sym, subst}
 use mathlib.Core.Bool.{true}

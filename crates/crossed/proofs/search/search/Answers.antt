@@ -1,5 +1,4 @@
 -- `crossed::search::search` meets its contract: edges before the place are tried, and later ones before the other passed. Assumes nothing.
-use Prim.Native.Nat.{◌-◌}
 use native.Mathlib.Omega.{arith}
 use mathlib.Core.Path.{refl, sym, subst, ◌∙◌}
 use lib.ListN.{length}
