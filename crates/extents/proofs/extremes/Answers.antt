@@ -1,5 +1,5 @@
 -- `extents::extremes` meets its contract: the rectangle holds the corners behind the loop. Assumes nothing.
-use Prim.Native.Nat.{◌+◌, ◌-◌}
+use Prim.Native.Nat.{◌+◌}
 use mathlib.Core.Path.{ap, sym, subst}
 use borrow.Author.Rules.{rules}
 use Rattle.ground.specs.declared.Rectangle.{Rectangle}

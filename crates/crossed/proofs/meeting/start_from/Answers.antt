@@ -11,7 +11,6 @@ loop-i-init c = refl
 
 pub returns-then-has_length : goal.returns-then-has_length
 returns-then-has_length c =
-    
     let a = c.args in
     sym
     (c.loop-i.invariant

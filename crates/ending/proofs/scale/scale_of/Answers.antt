@@ -18,7 +18,6 @@ overflow_mul-size c =
 
 pub returns-then-span-size : goal.returns-then-span-size
 returns-then-span-size c =
-    
     scale_here c.loop-level.invariant (search rules) (omega (arith, c.size.ensures, c.if-span-size.true))
 
 pub loop-level-preserved : goal.loop-level-preserved
