@@ -1,6 +1,6 @@
 -- The journal and the account agree (document 02, requests 3 and 6): replay of the page that `journal` writes for lines gives the account
 -- that `account` ends with after them, and the count of each answer of their messages, however reads cut the input of either. Assumes nothing.
-use Rattle.std.specs.Prelude.{ℕ, ◌+◌, ◌^◌, ◌≤◌, ◌<◌, ◌≡◌, refl, Bool, true, false, cond, not, ◌&&◌, ◌||◌, List, [], ◌∷◌, ◌++◌, eqb, ltb, length}
+use Rattle.std.specs.Prelude.{ℕ, ◌+◌, ◌^◌, ◌<◌, ◌≡◌, refl, Bool, true, false, cond, not, ◌&&◌, ◌||◌, List, [], ◌∷◌, ◌++◌, eqb, ltb, length}
 use Rattle.std.proofs.Common.{arith, ap, ap₂, sym, ◌∙◌, true≢false, append-nil, append_assoc, ltb-false}
 use Rattle.std.proofs.lemmas.Bool.{eqb-false}
 use Rattle.facts.specs.Lists.{Each}
@@ -10,7 +10,7 @@ use Rattle.replies.specs.Replies.{check, run}
 use Rattle.halves.specs.Halves.{readable}
 use Rattle.entitlements.specs.declared.Account.{Account}
 use Rattle.entitlements.specs.declared.Kind.{Kind}
-use Rattle.entitlements.specs.Entitlements.{largest, empty, kind_of, Answering, refusal, Done, done, processing, message}
+use Rattle.entitlements.specs.Entitlements.{largest, empty, kind_of, refusal, Done, done, processing, message}
 use Rattle.entitlements.specs.Sound.{Sound, empty_sound, message_processing}
 use Rattle.history.specs.History.{Message, send, after, Sent, sent_by, sent, one}
 use Rattle.history.specs.HistoryLaws.{send_sound}

@@ -105,7 +105,10 @@ fn write_out(rt: &HostRuntime, output: &[u8], count: usize, told: &[u8], tells: 
     rt.stderr().write_all(&told[..tells]).is_ok()
 }
 
-// Says on standard error what failed. Where that cannot be written either, nothing is left to do.
+// Says on standard error what failed; who closed a pipe wants no word. Where it cannot be written, nothing is
+// left to do.
 fn say(rt: &HostRuntime, what: &str, e: io::Error) {
-    let _ = eprintln!(rt; "journal: {what}: {e}");
+    if !matches!(e.kind(), io::ErrorKind::BrokenPipe) {
+        let _ = eprintln!(rt; "journal: {what}: {e}");
+    }
 }

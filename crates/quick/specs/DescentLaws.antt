@@ -1,6 +1,6 @@
 -- The laws of a descent: the answer for ground that is a cell, the halves that follow, and the answers for them that make that for the whole.
 -- Assumes nothing.
-use Rattle.std.specs.Prelude.{ℕ, ◌+◌, ◌-◌, ◌/◌, ◌%◌, ◌≤◌, ◌<◌, max, ◌≡◌, refl, ◌⊎◌, Bool, true, false, List, eqb}
+use Rattle.std.specs.Prelude.{ℕ, ◌+◌, ◌-◌, ◌/◌, ◌≤◌, ◌<◌, max, ◌≡◌, refl, ◌⊎◌, Bool, true, false, List, eqb}
 use Rattle.std.proofs.Common.{eq-or-lt_of_le, arith, ap, subst₂, ◌∙◌, inl, inr, true≢false, eqb-true}
 use Rattle.std.proofs.Math.Path.{sym, subst}
 use Rattle.std.proofs.lemmas.Bool.{eqb-false}

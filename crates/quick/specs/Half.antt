@@ -1,12 +1,11 @@
 -- A half and the edges that are kept for it in a lent room: what has to be so of it, and what the test for passing over tells. Assumes
 -- nothing.
-use Rattle.std.specs.Prelude.{ℕ, ◌+◌, ◌-◌, ◌*◌, ◌/◌, ◌≤◌, ◌<◌, min, max, ◌≡◌, Bool, true, false, cond, not, ◌&&◌, ◌||◌, List, [], ◌∷◌, map, ltb, length}
+use Rattle.std.specs.Prelude.{ℕ, ◌-◌, ◌*◌, ◌≤◌, ◌<◌, min, max, ◌≡◌, Bool, true, false, cond, not, ◌&&◌, ◌||◌, List, [], ◌∷◌, map, ltb, length}
 use Rattle.facts.specs.Lists.{count_up}
 use Rattle.ground.specs.declared.Rectangle.{Rectangle}
 use Rattle.ground.specs.declared.Cell.{Cell}
 use Rattle.ground.specs.Rectangles.{Within, Lies, Wide, centre_of}
 use Rattle.ground.specs.Cells.{sides_of, IsCell}
-use Rattle.ground.specs.Halves.{narrowest}
 use Rattle.edge.specs.Edge.{Edge, beyond, misses}
 use Rattle.boundary.specs.Boundary.{point_inside, unmet, ground_inside, inside}
 use Rattle.boundary.specs.Closed.{Closed}

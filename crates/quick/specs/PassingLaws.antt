@@ -14,7 +14,7 @@ use Rattle.ground.specs.CellsLaws.{cell_wide}
 use Rattle.ground.specs.Halves.{narrowest}
 use Rattle.ground.specs.HalvesLaws.{narrow_wide, narrow_finer}
 use Rattle.edge.specs.Edge.{Edge}
-use Rattle.boundary.specs.Boundary.{point_inside, unmet, ground_inside, inside}
+use Rattle.boundary.specs.Boundary.{point_inside, unmet, ground_inside}
 use Rattle.boundary.specs.Closed.{Closed}
 use Rattle.boundary.specs.InsideLaws.{point_ground, inside_point}
 use Rattle.chosen.specs.Chosen.{Over}

@@ -1,6 +1,6 @@
 -- `book::reply_all` meets its contract. The loop's invariant is `Replying`, whose laws are in output/specs/Replying.antt; a byte further
 -- is one of the two laws of one byte. Assumes nothing.
-use Rattle.std.proofs.Common.{ℕ, ◌-◌, List, sym, refl, ◌∙◌, ap₂, rules}
+use Rattle.std.proofs.Common.{ℕ, List, sym, refl, ◌∙◌, ap₂, rules}
 use Rattle.room.specs.RoomLaws.{put_nothing}
 use Rattle.lines.specs.Automaton.{Coming}
 use Rattle.lines.specs.AutomatonLaws.{byte_feed, byte_more}

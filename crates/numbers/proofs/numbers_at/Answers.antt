@@ -2,7 +2,6 @@
 -- Assumes nothing.
 use borrow.Author.Rules.{rules}
 use native.Mathlib.Omega.{arith}
-use Prim.Native.Nat.{◌-◌}
 use mathlib.Core.Path.{sym, ◌∙◌}
 use Rattle.numbers.specs.Counting.{counting_begin, counting_end, counting_other, counting_bad, counting_more, counting_further}
 use Rattle.numbers.proofs.numbers_at.Goals as goal

@@ -1,5 +1,4 @@
 -- `plain::chosen` meets its contract: the levels from `level` on are still to be tried. Assumes nothing.
-use Prim.Native.Nat.{◌-◌}
 use native.Mathlib.Omega.{arith}
 use mathlib.Core.Path.{sym, ◌∙◌}
 use Rattle.boundary.specs.Listed.{edges_in}

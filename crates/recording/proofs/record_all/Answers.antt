@@ -1,6 +1,6 @@
 -- `recording::record_all` meets its contract. The loop's invariant is `Taking` twice, for the records and for what is told, whose laws are in
 -- output/specs/Replying.antt. Assumes nothing.
-use Rattle.std.proofs.Common.{◌-◌, refl, rules}
+use Rattle.std.proofs.Common.{refl, rules}
 use Rattle.lines.specs.Answers.{always}
 use Rattle.output.specs.Taking.{taking_begin, taking_step, taking_end}
 use Rattle.recording.specs.Recorded.{said, coming}

@@ -1,6 +1,6 @@
 -- `register::reply_all` meets its contract. The loop's invariant is `Replying`, whose laws are in output/specs/Replying.antt.
 -- Assumes nothing.
-use Rattle.std.proofs.Common.{◌-◌, refl, rules}
+use Rattle.std.proofs.Common.{refl, rules}
 use Rattle.lines.specs.Answers.{always}
 use Rattle.output.specs.Replying.{replying_begin, replying_step, replying_end}
 use Rattle.register.specs.Said.{said, coming}

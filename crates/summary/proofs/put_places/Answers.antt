@@ -1,5 +1,4 @@
 -- `summary::put_places` meets its contract: the lines of the places below `i` are put. Assumes nothing.
-use Prim.Native.Nat.{◌-◌}
 use mathlib.Core.Path.{ap, ◌∙◌}
 use lib.ListN.{length, get_or}
 use borrow.Author.Tests.{eq-eqb, ne_eqb}

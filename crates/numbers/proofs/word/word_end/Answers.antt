@@ -2,10 +2,8 @@
 -- Assumes nothing.
 use borrow.Author.Rules.{rules}
 use native.Mathlib.Omega.{arith}
-use Prim.Native.Nat.{◌-◌}
 use mathlib.Core.Path.{ap, ◌∙◌}
 use lib.ListN.{length}
-use Rattle.numbers.specs.Numbers.{word_end}
 use Rattle.numbers.specs.NumbersLaws.{word_end_lem, word_space, word_more}
 use Rattle.numbers.proofs.word.word_end.Goals as goal
 

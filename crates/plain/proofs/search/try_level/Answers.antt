@@ -1,5 +1,5 @@
 -- `plain::search::try_level` meets its contract: the west sides from `west` on are still to be tried. Assumes nothing.
-use Prim.Native.Nat.{◌-◌, ◌≤◌}
+use Prim.Native.Nat.{◌≤◌}
 use native.Mathlib.Omega.{arith}
 use mathlib.Core.Path.{sym, subst, ◌∙◌}
 use Rattle.ground.specs.Levels.{lon_end}

@@ -1,5 +1,5 @@
 -- `plain::search::try_west` meets its contract: the south sides from `south` on are still to be tried. Assumes nothing.
-use Prim.Native.Nat.{ℕ, ◌-◌, ◌≤◌}
+use Prim.Native.Nat.{ℕ, ◌≤◌}
 use native.Mathlib.Omega.{arith}
 use mathlib.Core.Path.{◌≡◌, sym, subst}
 use Rattle.ground.specs.Levels.{lat_end}

@@ -1,5 +1,4 @@
 -- `quick::kept::first_met` meets its contract: those before place i miss, and the one there is not beyond a side. Assumes nothing.
-use Prim.Native.Nat.{◌-◌}
 use native.Mathlib.Omega.{arith}
 use mathlib.Core.Path.{◌≡◌, ap, sym, ◌∙◌}
 use mathlib.Core.Bool.{not}

@@ -1,5 +1,5 @@
 -- `quick::kept::keep` meets its contract: the edges put behind the others, with those that meet of the ones still to be seen. Assumes nothing.
-use Prim.Native.Nat.{◌-◌, ◌/◌, ◌<◌}
+use Prim.Native.Nat.{◌/◌, ◌<◌}
 use native.Mathlib.Omega.{arith}
 use mathlib.Core.Path.{◌≡◌, ap, sym, ◌∙◌}
 use mathlib.Core.Bool.{Bool, not}

@@ -1,5 +1,4 @@
 -- `quick::kept::next_near` meets its contract: those before place i are beyond a side, and so miss. Assumes nothing.
-use Prim.Native.Nat.{◌-◌}
 use native.Mathlib.Omega.{arith}
 use mathlib.Core.Path.{◌≡◌, ap, sym, ◌∙◌}
 use Rattle.edge.specs.Edge.{Edge, beyond}

@@ -1,7 +1,5 @@
 -- `quick::kept::odd_at` meets its contract: the count so far, with the turns of the edges from place i on. Assumes nothing.
-use Prim.Native.Nat.{◌-◌}
 use mathlib.Core.Path.{refl}
-use Rattle.edge.specs.Edge.{turns}
 use Rattle.quick.specs.HalfLaws.{odd_again, odd_end}
 use Rattle.quick.proofs.kept.odd_at.Goals as goal
 

@@ -1,8 +1,6 @@
 -- `quick::kept::sorted` meets its contract: it stays with its edges, or has those that meet it, and the count at its corner. Assumes nothing.
-use Prim.Native.Nat.{◌-◌, ◌/◌}
 use native.Mathlib.Omega.{arith}
 use mathlib.Core.Path.{refl, sym, ap, subst, ◌∙◌}
-use lib.ListN.{length}
 use Rattle.ground.specs.Rectangles.{Lies}
 use Rattle.ground.specs.RectanglesLaws.{corner_lies}
 use Rattle.boundary.specs.Listed.{boundary_of}

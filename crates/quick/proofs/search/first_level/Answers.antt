@@ -1,5 +1,4 @@
 -- `quick::search::first_level` meets its contract: cells of each level before `level` are too wide. Assumes nothing.
-use Prim.Native.Nat.{◌-◌}
 use native.Mathlib.Omega.{arith}
 use mathlib.Core.Path.{sym, ◌∙◌}
 use Rattle.quick.specs.SearchLaws.{wide_begin, wide_again}

@@ -1,6 +1,6 @@
 -- `quick::search::in_column` meets its contract: the ground from the first south side up to `south` has been searched. Assumes nothing.
 use borrow.Author.Rules.{rules}
-use Prim.Native.Nat.{◌-◌, ◌≤◌}
+use Prim.Native.Nat.{◌≤◌}
 use native.Mathlib.Omega.{arith}
 use Rattle.ground.specs.Levels.{lat_end}
 use Rattle.ground.specs.CellsLaws.{low_below_high}

@@ -1,6 +1,6 @@
 -- `quick::search::in_levels` meets its contract: the ground from the range's start to `west` has been searched. Assumes nothing.
 use borrow.Author.Rules.{rules}
-use Prim.Native.Nat.{◌-◌, ◌≤◌}
+use Prim.Native.Nat.{◌≤◌}
 use native.Mathlib.Omega.{arith}
 use Rattle.ground.specs.Levels.{lon, lon_end}
 use Rattle.ground.specs.CellsLaws.{low_below_high}

@@ -1,6 +1,5 @@
 -- `quick::search::search` meets its contract: no cell of a level before `level` is inside. Assumes nothing.
 use borrow.Author.Rules.{rules}
-use Prim.Native.Nat.{◌-◌}
 use native.Mathlib.Omega.{arith}
 use mathlib.Core.Path.{sym}
 use Rattle.quick.specs.Descent.{Levels}
