@@ -1,2 +1,2 @@
--- That the journal of message lines, replayed, gives the account of sending them.
+-- Which messages a journal records.
 pub mod Accord

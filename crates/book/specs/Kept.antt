@@ -7,9 +7,9 @@ use Rattle.std.proofs.Math.Path.{refl, ap, ap₂, sym}
 use Rattle.facts.specs.Texts.{bytes, same_text}
 use Rattle.entitlements.specs.declared.Account.{Account}
 use Rattle.entitlements.specs.Entitlements.{empty, Answering, processing, message}
-use Rattle.entitlements.specs.Outcomes.{Spoken, in_words_lem, by_number, message_spoken}
+use Rattle.entitlements.proofs.Outcomes.{Spoken, in_words_lem, by_number, message_spoken}
 use Rattle.history.specs.History.{Message, after, sent, one, times, Kept}
-use Rattle.history.specs.HistoryLaws.{after_append, sent_append, times_append, kept}
+use Rattle.history.proofs.HistoryLaws.{after_append, sent_append, times_append, kept}
 use Rattle.lines.specs.Lines.{Reply, refused, saying, longest, lines_of}
 use Rattle.lines.specs.Messages.{Message as Form, message as stating, asks_total, not_of_this_form, message_of}
 use Rattle.lines.specs.Answers.{Served, said_from, state_from}

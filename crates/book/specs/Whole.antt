@@ -6,7 +6,7 @@ use Rattle.facts.specs.Texts.{bytes}
 use Rattle.entitlements.specs.declared.Account.{Account}
 use Rattle.entitlements.specs.Entitlements.{empty, Answering, processing, message}
 use Rattle.entitlements.specs.Sound.{Sound, empty_sound, message_processing}
-use Rattle.entitlements.specs.Outcomes.{Spoken, in_words_lem, by_number, processing_sound, processing_spoken}
+use Rattle.entitlements.proofs.Outcomes.{Spoken, in_words_lem, by_number, processing_sound, processing_spoken}
 use Rattle.lines.specs.Lines.{refused, decimal, longest, lines_of}
 use Rattle.lines.specs.Messages.{Message, message as stating, asks_total, not_of_this_form, message_of}
 use Rattle.lines.specs.Answers.{state_from, output_from}

@@ -1,7 +1,6 @@
 pub mod Boundary
 pub mod Sums
 pub mod Closed
-pub mod InsideLaws
 pub mod Keeps
 pub mod Listed
 pub mod ListedLaws

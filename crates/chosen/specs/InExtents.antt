@@ -9,11 +9,11 @@ use Rattle.ground.specs.declared.Cell.{Cell}
 use Rattle.ground.specs.Levels.{lat, lon}
 use Rattle.ground.specs.Rectangles.{Within, Holds, Lies, Wide}
 use Rattle.ground.specs.Cells.{sides_of, IsCell, corner_of}
-use Rattle.ground.specs.CellsLaws.{cell_wide}
+use Rattle.ground.proofs.CellsLaws.{cell_wide}
 use Rattle.edge.specs.Edge.{Edge}
 use Rattle.boundary.specs.Boundary.{point_inside, inside}
 use Rattle.boundary.specs.Closed.{Closed, Ends, west_apart, east_apart, south_apart, north_apart}
-use Rattle.boundary.specs.InsideLaws.{inside_point}
+use Rattle.boundary.proofs.InsideLaws.{inside_point}
 use Rattle.chosen.specs.Chosen.{Over}
 
 module _ {r : Rectangle} {es : List Edge} (o : Over r es) (c : Cell) (is : IsCell c) (t : inside es c ≡ true) where

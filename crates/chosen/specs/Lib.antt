@@ -1,3 +1,2 @@
 pub mod Chosen
-pub mod ChosenLaws
 pub mod InExtents

@@ -22,7 +22,7 @@ use Rattle.boundary.specs.Listed.{boundary_of}
 use Rattle.chosen.specs.declared.Choice.{Choice}
 use Rattle.chosen.specs.declared.Choice.TheVariants.{At, Nowhere}
 use Rattle.chosen.specs.Chosen.{Chosen, Over}
-use Rattle.chosen.specs.ChosenLaws.{choose_chosen, choose_none, none_choose}
+use Rattle.chosen.proofs.ChosenLaws.{choose_chosen, choose_none, none_choose}
 use Rattle.unit.specs.declared.Kind.{Kind}
 use Rattle.unit.specs.Extents.{extremes_of}
 use Rattle.unit.specs.ExtentsLaws.{over_range}

@@ -14,7 +14,7 @@ use Rattle.boundary.specs.Boundary.{inside}
 use Rattle.boundary.specs.Listed.{boundary_of}
 use Rattle.chosen.specs.declared.Choice.{Choice}
 use Rattle.chosen.specs.declared.Choice.TheVariants.{At, Nowhere}
-use Rattle.chosen.specs.ChosenLaws.{choose_none}
+use Rattle.chosen.proofs.ChosenLaws.{choose_none}
 use Rattle.unit.specs.declared.Kind.{Kind}
 use Rattle.unit.specs.Extents.{extremes_of}
 use Rattle.unit.specs.Unit.{fields_of, chosen_cell, cell_check, corner_checks, code_checks, coding}

@@ -6,7 +6,7 @@ use Rattle.ground.specs.declared.Rectangle.{Rectangle}
 use Rattle.ground.specs.declared.Cell.{Cell}
 use Rattle.angles.specs.Angles.{distance}
 use Rattle.ground.specs.Levels.{lat, lon, IsLevel, smallest_size, size_of}
-use Rattle.ground.specs.LevelsLaws.{size_least}
+use Rattle.ground.proofs.LevelsLaws.{size_least}
 use Rattle.ground.specs.Cells.{sides_of, location_level, location_size, location_cell, corner_of}
 use Rattle.ground.specs.Rectangles.{centre_of}
 use Rattle.code.specs.declared.Fields.{Fields}

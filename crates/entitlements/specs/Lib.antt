@@ -2,6 +2,4 @@
 pub mod Entitlements
 pub mod Active
 pub mod Sound
-pub mod Changes
-pub mod Outcomes
 pub mod Once

@@ -1,9 +1,5 @@
 pub mod Levels
-pub mod LevelsLaws
 pub mod Rectangles
 pub mod RectanglesLaws
 pub mod Cells
-pub mod CellsLaws
-pub mod SidesLaws
 pub mod Halves
-pub mod HalvesLaws

@@ -1,4 +1,3 @@
 -- The history of an account, the theorem of it, and one that is computed.
 pub mod History
-pub mod HistoryLaws
 pub mod Examples

@@ -14,7 +14,7 @@ use Rattle.entitlements.specs.declared.Account.{Account}
 use Rattle.entitlements.specs.Entitlements.{empty, code_at, active_at, place_of, is_active, free_place, is_full, used, raised, lowered, taken, zeros, cleared}
 use Rattle.entitlements.specs.Active.{holds_at, place_active, free_within}
 use Rattle.entitlements.specs.Sound.{Sized, empty_inactive}
-use Rattle.entitlements.specs.Changes.{placed_active, placed_code, other_active, other_code}
+use Rattle.entitlements.proofs.Changes.{placed_active, placed_code, other_active, other_code}
 use Rattle.index.specs.Index.{slot_count, hash_of, slot_of, shares_at, looked_up, noted}
 
 -- ---- the cases of looking up and of noting, by the hash

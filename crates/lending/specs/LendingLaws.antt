@@ -9,8 +9,8 @@ use Rattle.entitlements.specs.declared.Answered.{Answered}
 use Rattle.entitlements.specs.declared.Kind.{Kind}
 use Rattle.entitlements.specs.Entitlements.{account_of, refusal, Done, done, does, message}
 use Rattle.entitlements.specs.Sound.{Sized, empty_sound}
-use Rattle.entitlements.specs.Outcomes.{message_sized}
-use Rattle.history.specs.HistoryLaws.{after_sound}
+use Rattle.entitlements.proofs.Outcomes.{message_sized}
+use Rattle.history.proofs.HistoryLaws.{after_sound}
 use Rattle.replaying.specs.declared.Replayed.{Replayed}
 use Rattle.replaying.specs.Replay.{messages_of, counts_of, replayed_by, replayed}
 use Rattle.lending.specs.Lending.{is_account, lending, replayed_into}

@@ -2,7 +2,6 @@
 -- meets them.
 pub mod Page
 pub mod Known
-pub mod PageLaws
-pub mod Reverse
+pub mod Told
 pub mod Examples
 pub mod Once

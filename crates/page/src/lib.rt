@@ -1,13 +1,13 @@
 // The journal page: records end to end, each 31 bytes. One is written into its own stretch of the page, and
 // read at an offset. The definitions are in specs/Page.antt: writing and reading are each the other's
-// reverse, which is in specs/Reverse.antt. No offset is too large, and no page too short.
+// reverse, which is in proofs/Reverse.antt. No offset is too large, and no page too short.
 #![tactic(auto)]
 
 ghost use Rattle.std.specs.Prelude.{◌≤◌, ◌≡◌, length};
 ghost use Rattle.entitlements.specs.Entitlements.{letter_of as Entitlements·letter_of};
 ghost use Rattle.room.specs.Room.{Put};
 ghost use Rattle.page.specs.Known.{same_as, code_by, found_with, look_with};
-ghost use Rattle.page.specs.PageLaws.{number_of, content_with};
+ghost use Rattle.page.specs.Told.{number_of, content_with};
 ghost use Rattle.page.specs.Page.{record_length, record_of, says, leaves, writing, writing_at, look_at, refusal_of, code_at};
 
 use entitlements::Kind;

@@ -6,8 +6,8 @@ use Rattle.ground.specs.declared.Rectangle.{Rectangle}
 use Rattle.ground.specs.declared.Cell.{Cell}
 use Rattle.ground.specs.Levels.{lat, lon, lat_end, IsLevel}
 use Rattle.ground.specs.Cells.{low_side, sides_of, IsCell, is_cell}
-use Rattle.ground.specs.CellsLaws.{is_cell_lem}
-use Rattle.ground.specs.SidesLaws.{side_end}
+use Rattle.ground.proofs.CellsLaws.{is_cell_lem}
+use Rattle.ground.proofs.SidesLaws.{side_end}
 use Rattle.edge.specs.Edge.{Edge}
 use Rattle.boundary.specs.Boundary.{inside}
 use Rattle.chosen.specs.declared.Choice.TheVariants.{At, Nowhere}

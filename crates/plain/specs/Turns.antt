@@ -4,8 +4,8 @@ use Rattle.std.specs.Prelude.{ℕ, zero, suc, ◌+◌, ◌-◌, ◌*◌, ◌/◌
 use Rattle.std.proofs.Common.{arith, ap, subst, sym, ◌∙◌, lt-ltb, le-ltb}
 use Rattle.ground.specs.Levels.{coarsest_level, finest_level, levels, IsLevel, smallest_size}
 use Rattle.ground.specs.Cells.{low_side, high_side}
-use Rattle.ground.specs.CellsLaws.{sides_smallest}
-use Rattle.ground.specs.SidesLaws.{low_low, below_high, high_low}
+use Rattle.ground.proofs.CellsLaws.{sides_smallest}
+use Rattle.ground.proofs.SidesLaws.{low_low, below_high, high_low}
 use Rattle.ground.specs.declared.Cell.{Cell}
 use Rattle.chosen.specs.declared.Choice.{Choice}
 use Rattle.chosen.specs.declared.Choice.TheVariants.{At, Nowhere}

@@ -13,13 +13,13 @@ use Rattle.ground.specs.Levels.{lat_end, lon_end, IsLevel}
 use Rattle.ground.specs.Rectangles.{Within, Wide, south_of, north_of, west_of, east_of}
 use Rattle.ground.specs.RectanglesLaws.{within_self}
 use Rattle.ground.specs.Cells.{low_side, high_side, sides_of, IsCell}
-use Rattle.ground.specs.CellsLaws.{low_below_high, cell_wide}
-use Rattle.ground.specs.SidesLaws.{none_between}
+use Rattle.ground.proofs.CellsLaws.{low_below_high, cell_wide}
+use Rattle.ground.proofs.SidesLaws.{none_between}
 use Rattle.ground.specs.Halves.{Span, Ground, split_at, lat_split, lon_split}
-use Rattle.ground.specs.HalvesLaws.{LatHalves, lat_halves, lat_unhalved, LonHalves, lon_halves, lon_unhalved}
+use Rattle.ground.proofs.HalvesLaws.{LatHalves, lat_halves, lat_unhalved, LonHalves, lon_halves, lon_unhalved}
 use Rattle.edge.specs.Edge.{Edge}
 use Rattle.boundary.specs.Boundary.{unmet, ground_inside, inside}
-use Rattle.boundary.specs.InsideLaws.{inside_within}
+use Rattle.boundary.proofs.InsideLaws.{inside_within}
 use Rattle.chosen.specs.declared.Choice.{Choice}
 use Rattle.chosen.specs.declared.Choice.TheVariants.{At}
 use Rattle.quick.specs.declared.half.Half.{Half}

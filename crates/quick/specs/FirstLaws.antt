@@ -12,8 +12,8 @@ use Rattle.ground.specs.declared.Cell.{Cell}
 use Rattle.ground.specs.Levels.{coarsest_level}
 use Rattle.ground.specs.Rectangles.{Within, south_of, north_of, west_of, east_of}
 use Rattle.ground.specs.Cells.{low_side, high_side, sides_of}
-use Rattle.ground.specs.CellsLaws.{cell_wide}
-use Rattle.ground.specs.HalvesLaws.{split, low_finer}
+use Rattle.ground.proofs.CellsLaws.{cell_wide}
+use Rattle.ground.proofs.HalvesLaws.{split, low_finer}
 use Rattle.edge.specs.Edge.{Edge}
 use Rattle.chosen.specs.declared.Choice.{Choice}
 use Rattle.chosen.specs.declared.Choice.TheVariants.{At, Nowhere}

@@ -10,13 +10,13 @@ use Rattle.ground.specs.Levels.{finest_level}
 use Rattle.ground.specs.Rectangles.{Within, Lies, centre_of}
 use Rattle.ground.specs.RectanglesLaws.{centre_lies, lies_within}
 use Rattle.ground.specs.Cells.{sides_of}
-use Rattle.ground.specs.CellsLaws.{cell_wide}
+use Rattle.ground.proofs.CellsLaws.{cell_wide}
 use Rattle.ground.specs.Halves.{narrowest}
-use Rattle.ground.specs.HalvesLaws.{narrow_wide, narrow_finer}
+use Rattle.ground.proofs.HalvesLaws.{narrow_wide, narrow_finer}
 use Rattle.edge.specs.Edge.{Edge}
 use Rattle.boundary.specs.Boundary.{point_inside, unmet, ground_inside}
 use Rattle.boundary.specs.Closed.{Closed}
-use Rattle.boundary.specs.InsideLaws.{point_ground, inside_point}
+use Rattle.boundary.proofs.InsideLaws.{point_ground, inside_point}
 use Rattle.chosen.specs.Chosen.{Over}
 use Rattle.chosen.specs.InExtents.{in_extents}
 use Rattle.quick.specs.Half.{common, too_little, ground_outside, HoldsNone}

@@ -12,10 +12,10 @@ use Rattle.angles.specs.Angles.{distance}
 use Rattle.ground.specs.Levels.{lat, lon, lat_end, lon_end, coarsest_level, finest_level, IsLevel}
 use Rattle.ground.specs.Rectangles.{Within, at}
 use Rattle.ground.specs.Cells.{low_side, high_side, sides_of, IsCell}
-use Rattle.ground.specs.CellsLaws.{low_below_high, cell_wide}
-use Rattle.ground.specs.SidesLaws.{low_most, low_low, high_low, side_end}
+use Rattle.ground.proofs.CellsLaws.{low_below_high, cell_wide}
+use Rattle.ground.proofs.SidesLaws.{low_most, low_low, high_low, side_end}
 use Rattle.ground.specs.Halves.{Ground, narrowest}
-use Rattle.ground.specs.HalvesLaws.{narrow_wide}
+use Rattle.ground.proofs.HalvesLaws.{narrow_wide}
 use Rattle.edge.specs.Edge.{Edge}
 use Rattle.boundary.specs.Boundary.{inside}
 use Rattle.boundary.specs.Closed.{north_apart}
@@ -23,7 +23,7 @@ use Rattle.boundary.specs.Keeps.{Keeps, keeps_all}
 use Rattle.chosen.specs.declared.Choice.{Choice}
 use Rattle.chosen.specs.declared.Choice.TheVariants.{At, Nowhere}
 use Rattle.chosen.specs.Chosen.{choose, Over}
-use Rattle.chosen.specs.ChosenLaws.{chosen_choose, none_choose}
+use Rattle.chosen.proofs.ChosenLaws.{chosen_choose, none_choose}
 use Rattle.chosen.specs.InExtents.{in_extents}
 use Rattle.quick.specs.declared.half.Half.{Half}
 use Rattle.quick.specs.declared.half.Sought.{Sought}

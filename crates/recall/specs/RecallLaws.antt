@@ -12,7 +12,7 @@ use Rattle.page.specs.declared.Record.{Record}
 use Rattle.page.specs.declared.Found.TheVariants as found
 use Rattle.page.specs.Page.{record_length, code_of, stretch_at, look_at}
 use Rattle.page.specs.Known.{code_by}
-use Rattle.page.specs.PageLaws.{nothing_known, known_read, look_known, look_recorded, look_within, recorded_right}
+use Rattle.page.proofs.PageLaws.{nothing_known, known_read, look_known, look_recorded, look_within, recorded_right}
 use Rattle.recall.specs.Recall.{slot_count, text_at, earlier_at, slot_of, slot_at, recalled, remembered, after_of}
 
 -- ---- texts

@@ -6,7 +6,7 @@ use Rattle.halves.specs.Halves.{readable}
 use Rattle.entitlements.specs.declared.Kind.{Kind}
 use Rattle.entitlements.specs.Entitlements.{largest, kind_of}
 use Rattle.page.specs.Page.{record_length, record_of, write_checks}
-use Rattle.page.specs.PageLaws.{record_length_lem, code_twenty}
+use Rattle.page.proofs.PageLaws.{record_length_lem, code_twenty}
 use Rattle.lines.specs.Lines.{Reply, coded, refused, longest}
 use Rattle.lines.specs.Messages.{Message, message, asks_total, not_of_this_form, message_of}
 use Rattle.lines.specs.Answers.{always}

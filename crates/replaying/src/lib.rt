@@ -9,7 +9,7 @@ ghost use Rattle.std.specs.Prelude.{◌≡◌, []};
 ghost use Rattle.entitlements.specs.Entitlements.{account_of};
 ghost use Rattle.replaying.specs.Replay.{counts_of, replayed};
 ghost use Rattle.replaying.specs.Indexing.{noted_step};
-ghost use Rattle.replaying.specs.ReplayLaws.{rank_of, more_of, tallied};
+ghost use Rattle.replaying.specs.Tally.{rank_of, more_of, tallied};
 
 use change::Step;
 use entitlements::{Account, Answer};

@@ -13,9 +13,9 @@ use Rattle.ground.specs.declared.Rectangle.{Rectangle}
 use Rattle.ground.specs.declared.Cell.{Cell}
 use Rattle.angles.specs.Angles.{distance}
 use Rattle.ground.specs.Levels.{lat_end, lon_end, IsLevel, size_of}
-use Rattle.ground.specs.LevelsLaws.{size_least}
+use Rattle.ground.proofs.LevelsLaws.{size_least}
 use Rattle.ground.specs.Cells.{IsCell, location_cell, corner_of}
-use Rattle.ground.specs.CellsLaws.{Reference}
+use Rattle.ground.proofs.CellsLaws.{Reference}
 use Rattle.code.specs.declared.Fields.{Fields}
 use Rattle.code.specs.Code.{rectangle_of, writing, reading, Told, tells_of}
 use Rattle.code.specs.WritingLaws.{Good, good_writing}
@@ -31,7 +31,7 @@ use Rattle.unit.specs.Extents.{extremes_of}
 use Rattle.unit.specs.Unit.{span_cells, fields_at, level_of, fields_of, code_at, chosen_cell, coding}
 use Rattle.unit.specs.ExtentsLaws.{extremes_hold, over_range}
 use Rattle.chosen.specs.Chosen.{Over}
-use Rattle.chosen.specs.ChosenLaws.{choose_chosen}
+use Rattle.chosen.proofs.ChosenLaws.{choose_chosen}
 use Rattle.unit.specs.CheckLaws.{Grounded, Entered, entered, celled, all_accept}
 use Rattle.unit.specs.SpansLaws.{ReferenceIn, reference_in_lem, spans_least}
 use Rattle.unit.specs.TailsLaws.{Fits, one_step}

@@ -12,7 +12,7 @@ use Rattle.replies.specs.Replies.{Said, Check, run, Outcome, outcome}
 use Rattle.ground.specs.declared.Rectangle.{Rectangle}
 use Rattle.ground.specs.declared.Cell.{Cell}
 use Rattle.ground.specs.Cells.{is_cell}
-use Rattle.ground.specs.CellsLaws.{is_cell_lem}
+use Rattle.ground.proofs.CellsLaws.{is_cell_lem}
 use Rattle.code.specs.declared.Fields.{Fields}
 use Rattle.code.specs.declared.Written.{Written}
 use Rattle.code.specs.Code as code

@@ -11,7 +11,7 @@ use Rattle.ground.specs.declared.Point.{Point}
 use Rattle.ground.specs.declared.Rectangle.{Rectangle}
 use Rattle.ground.specs.declared.Cell.{Cell}
 use Rattle.ground.specs.Levels.{lat, lon, lat_end, lon_end, IsLevel}
-use Rattle.ground.specs.CellsLaws.{cell_wide}
+use Rattle.ground.proofs.CellsLaws.{cell_wide}
 use Rattle.boundary.specs.Boundary.{edges_of, inside}
 use Rattle.boundary.specs.Sums.{next}
 use Rattle.edge.specs.Edge.{Between, OnEdge}
@@ -25,7 +25,7 @@ use Rattle.crossed.specs.Crossed.{pair_of, crossed, start_of}
 use Rattle.crossed.specs.CrossedLaws.{crossed_same}
 use Rattle.unit.specs.Extents.{least_from, greatest_from, least, greatest, extremes_of}
 use Rattle.chosen.specs.Chosen.{Chosen, choose}
-use Rattle.chosen.specs.ChosenLaws.{choose_same}
+use Rattle.chosen.proofs.ChosenLaws.{choose_same}
 use Rattle.facts.specs.Numbers.{max_above}
 use Rattle.unit.specs.Unit.{above_range, above_degree, bad_number, no_cell, code_at, chosen_cell, corner_checks, code_checks, coding}
 

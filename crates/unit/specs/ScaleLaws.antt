@@ -4,7 +4,7 @@ use Rattle.std.specs.Prelude.{ℕ, zero, suc, ◌+◌, ◌-◌, ◌*◌, ◌≤�
 use Rattle.std.proofs.Common.{arith, sym, inl, inr, ltb-true, ltb-false}
 use Rattle.std.proofs.Math.Path.{subst}
 use Rattle.ground.specs.Levels.{degree, coarsest_level, IsLevel, size_of}
-use Rattle.ground.specs.LevelsLaws.{size_step}
+use Rattle.ground.proofs.LevelsLaws.{size_step}
 use Rattle.facts.specs.Numbers.{either_way}
 use Rattle.code.specs.Code.{finest_scale}
 use Rattle.unit.specs.Unit.{scale_from, scale_of, coarser}

@@ -8,9 +8,9 @@ use Rattle.ground.specs.declared.Rectangle.{Rectangle}
 use Rattle.ground.specs.declared.Cell.{Cell}
 use Rattle.angles.specs.Angles.{distance}
 use Rattle.ground.specs.Levels.{IsLevel, size_of}
-use Rattle.ground.specs.LevelsLaws.{size_least}
+use Rattle.ground.proofs.LevelsLaws.{size_least}
 use Rattle.ground.specs.Cells.{sides_of, IsCell, location_cell, corner_of}
-use Rattle.ground.specs.CellsLaws.{Reference, located}
+use Rattle.ground.proofs.CellsLaws.{Reference, located}
 use Rattle.code.specs.declared.Fields.{Fields}
 use Rattle.edge.specs.Edge.{Edge}
 use Rattle.boundary.specs.Boundary.{inside}

@@ -5,7 +5,7 @@ use mathlib.Core.Path.{◌≡◌, sym, ◌∙◌}
 use borrow.Author.Tests.{le-leb, lt-leb}
 use Rattle.ground.specs.Levels.{lat_end, lon_end, coarsest_level, finest_level}
 use Rattle.ground.specs.Cells.{high_side, sides_of, is_side, is_cell, sides_found}
-use Rattle.ground.specs.CellsLaws.{side_ends}
+use Rattle.ground.proofs.CellsLaws.{side_ends}
 use Rattle.cells.proofs.sides_found.Goals as goal
 
 pub returns-then-level-lt-COARSEST : goal.returns-then-level-lt-COARSEST

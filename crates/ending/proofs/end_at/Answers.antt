@@ -2,7 +2,7 @@
 use mathlib.Core.Path.{◌≡◌, ap, sym, ◌∙◌}
 use mathlib.Core.Bool.{true}
 use Rattle.ground.specs.Cells.{sides_of, is_cell}
-use Rattle.ground.specs.CellsLaws.{found_of, found_none}
+use Rattle.ground.proofs.CellsLaws.{found_of, found_none}
 use Rattle.code.specs.declared.Fields.{Fields}
 use Rattle.code.specs.Code.{writing}
 use Rattle.unit.specs.Frame.{ending}

@@ -4,7 +4,7 @@ use mathlib.Core.Path.{ap, sym, ◌∙◌}
 use mathlib.Core.Logic.{inl, inr}
 use borrow.Author.Rules.{rules}
 use Rattle.ground.specs.Levels.{size_of}
-use Rattle.ground.specs.LevelsLaws.{size_none, size_seconds, size_minutes, size_coarsest}
+use Rattle.ground.proofs.LevelsLaws.{size_none, size_seconds, size_minutes, size_coarsest}
 use Rattle.ground.proofs.size.Goals as goal
 
 pub returns-then-level-gt-FINEST : goal.returns-then-level-gt-FINEST

@@ -7,7 +7,7 @@ use Rattle.page.specs.declared.Found.{Found}
 use Rattle.page.specs.declared.Found.TheVariants as found
 use Rattle.page.specs.declared.Record.{Record}
 use Rattle.page.specs.Page.{where_found}
-use Rattle.page.specs.PageLaws.{look_within, code_found}
+use Rattle.page.proofs.PageLaws.{look_within, code_found}
 use Prim.Native.Nat.{ℕ}
 use borrow.Author.Rules.{rules}
 use Rattle.page.proofs.code_at.Goals as goal

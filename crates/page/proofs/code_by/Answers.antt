@@ -1,6 +1,6 @@
 -- `page::code_by` meets its contract: the same text as before, or another. Assumes nothing.
 use mathlib.Core.Path.{sym, ◌∙◌}
-use Rattle.page.specs.PageLaws.{known_same, known_other}
+use Rattle.page.proofs.PageLaws.{known_same, known_other}
 use Rattle.page.proofs.code_by.Goals as goal
 
 pub returns-then-same_as : goal.returns-then-same_as

@@ -1,7 +1,7 @@
 -- `page::content_by` meets its contract: no number, no code, or a record. Assumes nothing.
 use mathlib.Core.Path.{sym, ◌∙◌}
 use Rattle.page.specs.Known.{code_by}
-use Rattle.page.specs.PageLaws.{content_none, content_refused, content_read}
+use Rattle.page.proofs.PageLaws.{content_none, content_refused, content_read}
 use Rattle.page.proofs.content_by.Goals as goal
 
 pub returns-then-number-eq0 : goal.returns-then-number-eq0

@@ -6,7 +6,7 @@ use lib.ListN.{length}
 use Rattle.entitlements.specs.declared.Kind.TheVariants.{Activate, Cancel}
 use Rattle.page.specs.Page.{record_length}
 use Rattle.page.specs.Known.{code_by}
-use Rattle.page.specs.PageLaws.{found_cut, found_first, found_second, found_kind, found_other}
+use Rattle.page.proofs.PageLaws.{found_cut, found_first, found_second, found_kind, found_other}
 use Rattle.page.proofs.found_by.Goals as goal
 
 pub returns-then-stretch-lt-RECORD : goal.returns-then-stretch-lt-RECORD

@@ -3,7 +3,7 @@ use mathlib.Core.Path.{◌∙◌}
 use mathlib.Core.List.{[]}
 use Rattle.halves.specs.Halves.{halves_by}
 use Rattle.page.specs.Known.{code_by}
-use Rattle.page.specs.PageLaws.{nothing_known, look_known}
+use Rattle.page.proofs.PageLaws.{nothing_known, look_known}
 use Rattle.page.proofs.look.Goals as goal
 
 pub returns : goal.returns

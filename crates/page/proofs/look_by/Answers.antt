@@ -2,7 +2,7 @@
 use mathlib.Core.Path.{ap, sym, ◌∙◌}
 use borrow.Author.Rules.{part_to_end}
 use Rattle.page.specs.Known.{code_by, found_with}
-use Rattle.page.specs.PageLaws.{look_end, look_in, look_past}
+use Rattle.page.proofs.PageLaws.{look_end, look_in, look_past}
 use Rattle.page.proofs.look_by.Goals as goal
 
 pub returns-then-offset-page : goal.returns-then-offset-page

@@ -1,7 +1,7 @@
 -- `page::number_in` meets its contract: 0 where a byte is no letter, and else the number. Assumes nothing.
 use native.Mathlib.Omega.{arith}
 use mathlib.Core.Path.{sym, ◌∙◌}
-use Rattle.page.specs.PageLaws.{number_other, number_all}
+use Rattle.page.proofs.PageLaws.{number_other, number_all}
 use Rattle.page.proofs.number_in.Goals as goal
 
 pub returns-then-first_other-text : goal.returns-then-first_other-text

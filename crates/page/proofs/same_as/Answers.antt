@@ -1,7 +1,7 @@
 -- `page::same_as` meets its contract: texts of other lengths are not the same, and of twenty bytes what is left answers as the whole does.
 -- Assumes nothing.
 use mathlib.Core.Path.{sym}
-use Rattle.page.specs.PageLaws.{same_first, same_second, comparing_begin, comparing_other, comparing_more, comparing_end}
+use Rattle.page.proofs.PageLaws.{same_first, same_second, comparing_begin, comparing_other, comparing_more, comparing_end}
 use borrow.Author.Rules.{rules}
 use Rattle.page.proofs.same_as.Goals as goal
 

@@ -1,7 +1,7 @@
 -- `page::same_as` meets its contract: texts of other lengths are not the same, and of twenty bytes what is left answers as the whole does.
 -- Assumes nothing.
 use Prim.Native.Nat.{◌-◌}
-use Rattle.page.specs.PageLaws.{Comparing}
+use Rattle.page.proofs.PageLaws.{Comparing}
 use Rattle.page.proofs.same_as.Given as goal
 
 abbrev pub invariant-loop-i : goal.invariant-loop-i

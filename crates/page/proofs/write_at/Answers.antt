@@ -1,5 +1,5 @@
 -- `page::write_at` meets its contract: past the end the stretch is empty, and before it the page has the stretch back. Assumes nothing.
-use Rattle.page.specs.PageLaws.{writing_past, writing_within}
+use Rattle.page.proofs.PageLaws.{writing_past, writing_within}
 use Rattle.page.proofs.write_at.Goals as goal
 
 pub returns-then-page-offset : goal.returns-then-page-offset

@@ -5,7 +5,7 @@ use mathlib.Core.Path.{sym, ◌∙◌}
 use lib.ListN.{length}
 use Rattle.halves.specs.HalvesLaws.{code_read}
 use Rattle.page.specs.Page.{record_length}
-use Rattle.page.specs.PageLaws.{code_twenty, writing_zero, writing_large, writing_refused, writing_short, writing_put}
+use Rattle.page.proofs.PageLaws.{code_twenty, writing_zero, writing_large, writing_refused, writing_short, writing_put}
 use Rattle.page.proofs.write_record.Goals as goal
 
 pub returns-then-number-eq0 : goal.returns-then-number-eq0

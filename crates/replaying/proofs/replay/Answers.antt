@@ -9,7 +9,7 @@ use Rattle.page.specs.declared.Found.{Found}
 use Rattle.page.specs.declared.Found.TheVariants as found
 use Rattle.page.specs.declared.Record.{Record}
 use Rattle.replaying.specs.Replay.{as_found}
-use Rattle.replaying.specs.ReplayLaws.{replaying_begin, replaying_room, replaying_change, replaying_step, replaying_end}
+use Rattle.replaying.proofs.ReplayLaws.{replaying_begin, replaying_room, replaying_change, replaying_step, replaying_end}
 use Rattle.replaying.proofs.replay.Goals as goal
 
 nothing : (f : Found) → ((r : Record) → f ≡ found.Record r → ⊥) → (m : Message) (later : List Message) → as_found f m later ≡ []

@@ -2,7 +2,7 @@
 -- behind it, or none. Assumes nothing.
 use Rattle.std.proofs.Common.{◌-◌, length}
 use Rattle.entitlements.specs.Entitlements.{account_of}
-use Rattle.replaying.specs.ReplayLaws.{Replaying}
+use Rattle.replaying.proofs.ReplayLaws.{Replaying}
 use Rattle.replaying.proofs.replay.Given as goal
 
 abbrev pub invariant-loop-found : goal.invariant-loop-found

@@ -3,10 +3,10 @@ use mathlib.Core.Path.{ap, sym, ◌∙◌}
 use mathlib.Core.Bool.{Bool, ◌&&◌}
 use Rattle.ground.specs.declared.Point.{Point}
 use Rattle.ground.specs.Rectangles.{centre_of}
-use Rattle.ground.specs.CellsLaws.{found_none}
+use Rattle.ground.proofs.CellsLaws.{found_none}
 use Rattle.boundary.specs.Boundary.{point_inside, inside}
 use Rattle.boundary.specs.Listed.{edges_in}
-use Rattle.boundary.specs.InsideLaws.{inside_found}
+use Rattle.boundary.proofs.InsideLaws.{inside_found}
 use Rattle.boundary.proofs.asked.inside.Goals as goal
 
 pub returns-then-unmet : goal.returns-then-unmet

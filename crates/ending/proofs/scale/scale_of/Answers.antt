@@ -4,7 +4,7 @@ use native.Mathlib.Omega.{arith}
 use mathlib.Core.Path.{sym, subst}
 use borrow.Author.Rules.{rules}
 use Rattle.ground.specs.Levels.{degree}
-use Rattle.ground.specs.LevelsLaws.{size_most}
+use Rattle.ground.proofs.LevelsLaws.{size_most}
 use Rattle.ending.specs.Scaling.{scale_begin, scale_here, scale_before, scale_end}
 use Rattle.ending.proofs.scale.scale_of.Goals as goal
 

@@ -4,7 +4,7 @@ use mathlib.Core.Path.{ap₂, sym, ◌∙◌}
 use borrow.Author.Tests.{eq-eqb}
 use Rattle.ground.specs.Levels.{size_of}
 use Rattle.ground.specs.Halves.{narrowest}
-use Rattle.ground.specs.HalvesLaws.{narrow_size, narrow_cut}
+use Rattle.ground.proofs.HalvesLaws.{narrow_size, narrow_cut}
 use Rattle.ground.proofs.halves.narrowest.Goals as goal
 
 pub returns-then-part-eq0 : goal.returns-then-part-eq0

@@ -4,8 +4,8 @@ use native.Mathlib.Omega.{arith}
 use mathlib.Core.Path.{◌≡◌, sym, subst}
 use Rattle.ground.specs.Levels.{lat_end}
 use Rattle.ground.specs.Cells.{high_side}
-use Rattle.ground.specs.CellsLaws.{low_below_high}
-use Rattle.ground.specs.SidesLaws.{side_end}
+use Rattle.ground.proofs.CellsLaws.{low_below_high}
+use Rattle.ground.proofs.SidesLaws.{side_end}
 use Rattle.boundary.specs.Listed.{edges_in}
 use Rattle.chosen.specs.Chosen.{try_south, try_west}
 use Rattle.plain.specs.Turns.{SidesLeft, sides_found_lem, sides_again, sides_end}

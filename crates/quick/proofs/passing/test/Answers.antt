@@ -5,7 +5,7 @@ use Rattle.ground.specs.Rectangles.{Lies}
 use Rattle.ground.specs.RectanglesLaws.{corner_lies}
 use Rattle.boundary.specs.Boundary.{point_inside, unmet}
 use Rattle.boundary.specs.Listed.{boundary_of}
-use Rattle.boundary.specs.InsideLaws.{point_ground}
+use Rattle.boundary.proofs.InsideLaws.{point_ground}
 use Rattle.quick.specs.Half.{too_little}
 use Rattle.quick.specs.HalfLaws.{met_unmet, past_unmet, odd_inside}
 use Rattle.quick.specs.PassingLaws.{little_none, even_none, met_outside, inside_outside}

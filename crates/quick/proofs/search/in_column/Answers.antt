@@ -3,7 +3,7 @@ use borrow.Author.Rules.{rules}
 use Prim.Native.Nat.{◌≤◌}
 use native.Mathlib.Omega.{arith}
 use Rattle.ground.specs.Levels.{lat_end}
-use Rattle.ground.specs.CellsLaws.{low_below_high}
+use Rattle.ground.proofs.CellsLaws.{low_below_high}
 use Rattle.quick.specs.DescentLaws.{settled_first}
 use Rattle.quick.specs.SearchLaws.{top_level, north_most, column_begin, column_past, column_again, column_end}
 use Rattle.quick.proofs.search.in_column.Goals as goal

@@ -3,7 +3,7 @@ use borrow.Author.Rules.{rules}
 use Prim.Native.Nat.{◌≤◌}
 use native.Mathlib.Omega.{arith}
 use Rattle.ground.specs.Levels.{lon, lon_end}
-use Rattle.ground.specs.CellsLaws.{low_below_high}
+use Rattle.ground.proofs.CellsLaws.{low_below_high}
 use Rattle.quick.specs.SearchLaws.{top_level, east_most, east_begin, east_past, east_again, east_end}
 use Rattle.quick.proofs.search.in_levels.Goals as goal
 

@@ -23,7 +23,7 @@ use Rattle.page.specs.declared.Record.{Record}
 use Rattle.page.specs.declared.Found.{Found}
 use Rattle.page.specs.declared.Found.TheVariants as found
 use Rattle.page.specs.Page.{record_length, mark, record_of, letter_in, code_of, number_text, stretch_at, write_checks, writing, writing_at, outcome_by, mark_wrong, is_kind, number_wrong, content_wrong, record_by, record_in, found_in, look_at, where_found, code_at}
-use Rattle.page.specs.PageLaws.{record_length_lem, code_twenty, same_text_lem, eight_bytes, Recorded, look_recorded, recorded_right}
+use Rattle.page.proofs.PageLaws.{record_length_lem, code_twenty, same_text_lem, eight_bytes, Recorded, look_recorded, recorded_right}
 
 -- ---- what writing accepts
 

@@ -10,11 +10,11 @@ use Rattle.ground.specs.declared.Lat.{Lat}
 use Rattle.ground.specs.declared.Lon.{Lon}
 use Rattle.ground.specs.declared.Rectangle.{Rectangle}
 use Rattle.ground.specs.Levels.{coarsest_level, finest_level, IsLevel, size_of}
-use Rattle.ground.specs.LevelsLaws.{at_level}
+use Rattle.ground.proofs.LevelsLaws.{at_level}
 use Rattle.ground.specs.Rectangles.{south_of, north_of, west_of, east_of}
 use Rattle.ground.specs.Cells.{afresh, start_of, low_side, high_side}
-use Rattle.ground.specs.CellsLaws.{low_below_high}
-use Rattle.ground.specs.SidesLaws.{Measured, start_is, some_size, some_afresh, side_measured, measured_side, high_low, none_between}
+use Rattle.ground.proofs.CellsLaws.{low_below_high}
+use Rattle.ground.proofs.SidesLaws.{Measured, start_is, some_size, some_afresh, side_measured, measured_side, high_low, none_between}
 use Rattle.ground.specs.Halves.{Span, Ground, split_at, cut_of, narrowest}
 
 -- The next level halves the size, and starts afresh where this one does

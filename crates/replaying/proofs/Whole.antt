@@ -12,10 +12,10 @@ use Rattle.history.specs.History.{Message, after, sent}
 use Rattle.page.specs.declared.Found.{Found}
 use Rattle.page.specs.declared.Found.TheVariants as found
 use Rattle.page.specs.Page.{record_length, record_of, code_of, number_text, stretch_at, mark_wrong, content_wrong, record_in, found_in, look_at, refusal_of}
-use Rattle.page.specs.PageLaws.{record_length_lem, code_twenty, is_record, look_within}
-use Rattle.page.specs.Reverse.{Writable, look_stretch, record_holds, record_found_lem}
+use Rattle.page.proofs.PageLaws.{record_length_lem, code_twenty, is_record, look_within}
+use Rattle.page.proofs.Reverse.{Writable, look_stretch, record_holds, record_found_lem}
 use Rattle.replaying.specs.Replay.{message_in, as_found, messages_from, messages_of, stop_of, counts_of, replayed_by, replayed}
-use Rattle.replaying.specs.ReplayLaws.{left_from, left_more, left_none, left_all}
+use Rattle.replaying.proofs.ReplayLaws.{left_from, left_more, left_none, left_all}
 
 -- ---- where it stops
 

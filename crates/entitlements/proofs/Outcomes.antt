@@ -42,7 +42,7 @@ use Rattle.entitlements.specs.Entitlements.{
   message,
 }
 use Rattle.entitlements.specs.Sound.{Sized, Sound, message_refused, message_accepted, message_processing}
-use Rattle.entitlements.specs.Changes.{placed_sized, used_sound, taken_sound, cleared_sound}
+use Rattle.entitlements.proofs.Changes.{placed_sized, used_sound, taken_sound, cleared_sound}
 
 -- A message that 41, 42 and "old" let pass
 pub record Passes (account : Account) (text : List ℕ) (number : ℕ) : Type 0 where

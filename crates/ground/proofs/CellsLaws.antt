@@ -10,7 +10,7 @@ use Rattle.ground.specs.declared.Cell.{Cell}
 use Rattle.ground.specs.declared.cells.Sides.TheVariants.{Of, NoCell}
 use Rattle.ground.specs.Levels.{lat, lon, degree, minute, lat_end, lon_end, coarsest_level, finest_level, IsLevel, smallest_size, size_of}
 use Rattle.ground.specs.Levels.{minute_level}
-use Rattle.ground.specs.LevelsLaws.{at_level, size_least, size_whole}
+use Rattle.ground.proofs.LevelsLaws.{at_level, size_least, size_whole}
 use Rattle.ground.specs.Rectangles.{Wide, centre_of}
 use Rattle.ground.specs.Cells.{afresh, start_of, low_side, high_side, sides_of, IsCell, location_level, location_size, location_cell}
 use Rattle.ground.specs.Cells.{is_side, is_cell, sides_found}

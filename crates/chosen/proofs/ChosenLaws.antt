@@ -10,9 +10,9 @@ use Rattle.ground.specs.declared.Rectangle.{Rectangle}
 use Rattle.ground.specs.declared.Cell.{Cell}
 use Rattle.ground.specs.Levels.{lat, lon, degree, levels, IsLevel, smallest_size}
 use Rattle.ground.specs.Cells.{low_side, high_side, sides_of, IsCell}
-use Rattle.ground.specs.LevelsLaws.{levels_are, levels_all, levels_rising}
-use Rattle.ground.specs.CellsLaws.{low_below_high, sides_smallest}
-use Rattle.ground.specs.SidesLaws.{low_most, low_low, below_high, high_low, none_between, side_end}
+use Rattle.ground.proofs.LevelsLaws.{levels_are, levels_all, levels_rising}
+use Rattle.ground.proofs.CellsLaws.{low_below_high, sides_smallest}
+use Rattle.ground.proofs.SidesLaws.{low_most, low_low, below_high, high_low, none_between, side_end}
 use Rattle.edge.specs.Edge.{Edge}
 use Rattle.boundary.specs.Boundary.{inside}
 use Rattle.chosen.specs.declared.Choice.{Choice}

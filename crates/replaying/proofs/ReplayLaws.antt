@@ -10,7 +10,7 @@ use Rattle.entitlements.specs.declared.Answer.{Answer}
 use Rattle.entitlements.specs.declared.Answer.TheVariants as answer
 use Rattle.entitlements.specs.Entitlements.{empty, says, Done}
 use Rattle.entitlements.specs.Sound.{Sound, empty_sound, message_processing}
-use Rattle.entitlements.specs.Outcomes.{message_sound}
+use Rattle.entitlements.proofs.Outcomes.{message_sound}
 use Rattle.index.specs.Index.{slot_count, looked_up}
 use Rattle.index.specs.IndexLaws.{Indexed, looked_place, empty_indexed}
 use Rattle.change.specs.declared.Change.{Change}
@@ -21,11 +21,12 @@ use Rattle.page.specs.declared.Found.{Found}
 use Rattle.page.specs.declared.Found.TheVariants as found
 use Rattle.page.specs.declared.Record.{Record}
 use Rattle.page.specs.Page.{record_length, stretch_at, look_at, refusal_of}
-use Rattle.page.specs.PageLaws.{look_recorded, look_within, recorded_right}
+use Rattle.page.proofs.PageLaws.{look_recorded, look_within, recorded_right}
 use Rattle.recall.specs.Recall.{recalled, remembered, after_of}
 use Rattle.recall.specs.RecallLaws.{Recalls, empty_slots, recalls_begin, recalled_look, recalls_note}
 use Rattle.replaying.specs.declared.Counts.{Counts}
 use Rattle.replaying.specs.Replay.{message_in, as_found, messages_from, messages_of, stop_of, times_refused, counts_of, replayed_by, replayed}
+use Rattle.replaying.specs.Tally.{rank_of, more_of, tallied}
 use Rattle.replaying.specs.Indexing.{noted_step, change_indexed}
 
 -- ---- the messages from an offset on
@@ -90,33 +91,6 @@ record_sent page offset {r} {account} f sound =
     ∙ ap (λ (s : Record). makes (change_by s.kind account s.code s.number) account) so.holds
 
 -- ---- counting
-
--- which of the six answers this is, from 1 on; 0 for one that no record gets
-abbrev pub rank_of : Answer → ℕ
-rank_of answer.Activated = 1
-rank_of answer.Already = 2
-rank_of answer.Cancelled = 3
-rank_of answer.NotActive = 4
-rank_of answer.Old = 5
-rank_of answer.Full = 6
-rank_of answer.Account = 0
-rank_of answer.Number = 0
-rank_of answer.Code = 0
-
--- one more where the rank is the one that is counted, as a machine counts
-abbrev pub more_of : ℕ → ℕ → ℕ → ℕ
-more_of count rank counted = cond (rank == counted) ((count + 1) % 2 ^ 64) count
-
--- the counts with one more answer
-abbrev pub tallied : Counts → Answer → Counts
-tallied counts a = record {
-  activated = more_of counts.activated (rank_of a) 1;
-  already = more_of counts.already (rank_of a) 2;
-  cancelled = more_of counts.cancelled (rank_of a) 3;
-  inactive = more_of counts.inactive (rank_of a) 4;
-  old = more_of counts.old (rank_of a) 5;
-  full = more_of counts.full (rank_of a) 6;
-}
 
 -- a count, with what is left to be counted, is the whole, which a machine can count
 pub record Sums (count left whole : ℕ) : Type 0 where

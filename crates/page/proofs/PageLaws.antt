@@ -30,6 +30,7 @@ use Rattle.page.specs.declared.Record.{Record}
 use Rattle.page.specs.declared.Found.{Found}
 use Rattle.page.specs.declared.Found.TheVariants as found
 use Rattle.page.specs.Page.{record_length, record_of, letter_in, code_of, number_text, stretch_at, write_checks, outcome_by, writing, writing_at, leaves, mark_wrong, is_kind, number_wrong, content_wrong, record_by, record_in, found_in, look_at, code_at}
+use Rattle.page.specs.Told.{number_of, content_with}
 use Rattle.page.specs.Known.{same_as, code_by, with_code, found_with, look_with}
 
 -- ---- a record
@@ -121,10 +122,6 @@ module _ (page : List ℕ) (offset : ℕ) (kind : Kind) (text : List ℕ) (numbe
 
 -- ---- the number of a record
 
--- The number that a text spells, its low sixty bits; 0 where a byte is no letter
-abbrev pub number_of : List ℕ → ℕ
-number_of text = cond (ltb (first_other letters text) (length text)) 0 (number_in letters text % 2 ^ 60)
-
 module _ (text : List ℕ) where
   pub number_other : first_other letters text < length text → number_of text ≡ 0
   number_other h = rw (lt-ltb (first_other letters text) (length text) h)
@@ -159,10 +156,6 @@ module _ (text : List ℕ) where
             (ne_eqb (number_in letters text) 0 (λ e. n (same ∙ e)), same)
 
 -- ---- what a record of a kind holds, however its code is read
-
-abbrev pub content_with : (List ℕ → Code) → Kind → List ℕ → Found
-content_with reads kind stretch =
-    cond (number_wrong (number_text stretch)) found.Content (with_code kind (number_in letters (number_text stretch)) (reads (code_of stretch)))
 
 -- There are eight bytes of a number in a stretch that has a record's bytes
 pub eight_bytes : (stretch : List ℕ) → record_length ≤ length stretch → length (number_text stretch) ≡ 8

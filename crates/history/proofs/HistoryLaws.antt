@@ -14,8 +14,8 @@ use Rattle.entitlements.specs.declared.Kind.{Kind}
 use Rattle.entitlements.specs.Entitlements.{empty, is_active, Done, processing}
 use Rattle.entitlements.specs.Active.{same_code_lem}
 use Rattle.entitlements.specs.Sound.{Sound, empty_sound, empty_active, empty_count, message_processing}
-use Rattle.entitlements.specs.Changes.{taken_active, taken_count, cleared_active, cleared_count}
-use Rattle.entitlements.specs.Outcomes.{
+use Rattle.entitlements.proofs.Changes.{taken_active, taken_count, cleared_active, cleared_count}
+use Rattle.entitlements.proofs.Outcomes.{
   Outcome,
   no_number,
   no_code,

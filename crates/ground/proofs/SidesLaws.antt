@@ -7,9 +7,9 @@ use Rattle.std.specs.Prelude.{◌≡◌, ◌⊎◌, Bool, true, false, leb}
 use Rattle.std.proofs.Math.Path.{refl, ap}
 use Rattle.std.proofs.Math.Arith.{digits_div, digits_mod}
 use Rattle.ground.specs.Levels.{degree, IsLevel, size_of}
-use Rattle.ground.specs.LevelsLaws.{size_least}
+use Rattle.ground.proofs.LevelsLaws.{size_least}
 use Rattle.ground.specs.Cells.{afresh, start_of, low_side, high_side}
-use Rattle.ground.specs.CellsLaws.{afresh_so}
+use Rattle.ground.proofs.CellsLaws.{afresh_so}
 
 -- An angle measured by its starts afresh, its whole sizes since, and a rest
 pub record Measured (level a q k t : ℕ) : Type 0 where

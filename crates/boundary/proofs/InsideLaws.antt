@@ -12,7 +12,7 @@ use Rattle.ground.specs.Levels.{lat, lon, size_of}
 use Rattle.ground.specs.Rectangles.{at, Within, Lies, Ordered, Wide, centre_of}
 use Rattle.ground.specs.RectanglesLaws.{wide_ordered, centre_lies, lies_within, lies_wide}
 use Rattle.ground.specs.Cells.{afresh, high_side, sides_of, is_cell, sides_found}
-use Rattle.ground.specs.CellsLaws.{found_of}
+use Rattle.ground.proofs.CellsLaws.{found_of}
 use Rattle.side.specs.Side.{left, left_or_on}
 use Rattle.edge.specs.Edge.{Edge, misses, crosses_east}
 use Rattle.edge.specs.MissesLaws.{misses_within}

@@ -1,0 +1,2 @@
+-- That the journal of message lines, replayed, gives the account of sending them.
+pub mod Accord

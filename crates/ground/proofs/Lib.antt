@@ -1,0 +1,4 @@
+pub mod LevelsLaws
+pub mod CellsLaws
+pub mod SidesLaws
+pub mod HalvesLaws
