@@ -1,13 +1,12 @@
 -- Ground that is inside (document 01, "The cell inside"): no edge meets ground within it, the count is odd at each of its points, and a
 -- notch between its corners is seen. Assumes nothing.
-use Rattle.std.specs.Prelude.{◌≡◌, refl, Bool, true, false, ◌&&◌, List, [], ◌∷◌}
+use Rattle.std.specs.Prelude.{◌≡◌, refl, Bool, true, false, ◌&&◌, List, [], ◌∷◌, Some}
 use Rattle.std.proofs.Common.{ap, ap₂, sym, ◌∙◌}
 use Rattle.facts.specs.Tests.{both}
 use Rattle.facts.specs.Lists.{Each}
 use Rattle.ground.specs.declared.Point.{Point}
 use Rattle.ground.specs.declared.Rectangle.{Rectangle}
 use Rattle.ground.specs.declared.Cell.{Cell}
-use Rattle.ground.specs.declared.cells.Sides.TheVariants.{Of}
 use Rattle.ground.specs.Levels.{lat, lon, size_of}
 use Rattle.ground.specs.Rectangles.{at, Within, Lies, Ordered, Wide, centre_of}
 use Rattle.ground.specs.RectanglesLaws.{wide_ordered, centre_lies, lies_within, lies_wide}
@@ -74,7 +73,7 @@ module _ (es : List Edge) (s : Rectangle) (t : ground_inside es s ≡ true) wher
         point_ground c (unmet_within (wide_ordered w) h es parts.0) (centre_lies w) ∙ inside_point (lies_within h (centre_lies w))
 
 -- A cell is inside when no edge meets the sides found and their centre is inside
-pub inside_found : (es : List Edge) (c : Cell) (r : Rectangle) → Of r ≡ sides_found c
+pub inside_found : (es : List Edge) (c : Cell) (r : Rectangle) → Some r ≡ sides_found c
     → (unmet r es && point_inside (centre_of r) es) ≡ (is_cell c && inside es c)
 unfolding ground_inside
 inside_found es c r e =

@@ -7,7 +7,7 @@ ghost use Rattle.boundary.specs.Listed.{edges_in};
 use corners::corner;
 use crossing::crosses_east;
 use edge::misses;
-use ground::{Cell, Point, Rectangle, Sides};
+use ground::{Cell, Point, Rectangle};
 
 // Whether no edge of a list meets a rectangle.
 fn unmet(edges: &[u32], r: Rectangle) -> bool
@@ -44,7 +44,7 @@ pub fn inside(edges: &[u32], c: Cell) -> bool
 {
     let found = cells::sides_found(c);
     match found {
-        Sides::Of(r) => unmet(edges, r) && odd_count(edges, ground::centre(r)),
-        Sides::NoCell => false,
+        Some(r) => unmet(edges, r) && odd_count(edges, ground::centre(r)),
+        None => false,
     }
 }

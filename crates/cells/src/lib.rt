@@ -4,7 +4,7 @@
 ghost use Rattle.std.specs.Prelude.{◌≡◌};
 ghost use Rattle.ground.specs.Cells.{low_side, high_side, is_side, sides_found};
 
-use ground::{COARSEST, Cell, FINEST, LAT_END, LON_END, Lat, Lon, Rectangle, Sides, afresh, size};
+use ground::{COARSEST, Cell, FINEST, LAT_END, LON_END, Lat, Lon, Rectangle, afresh, size};
 
 // The low side of the cell of a level that an angle lies in, for all numbers.
 pub fn low_side(level: u32, a: u32) -> u32
@@ -36,25 +36,25 @@ fn is_side(level: u32, a: u32, end: u32) -> bool
 }
 
 // The sides of a cell, for all numbers.
-pub fn sides_found(c: Cell) -> Sides
+pub fn sides_found(c: Cell) -> Option<Rectangle>
     ensures { result ≡ sides_found c }
 {
     let level = c.level;
     let west = c.west;
     let south = c.south;
     if level < COARSEST {
-        return Sides::NoCell;
+        return None;
     }
     if FINEST < level {
-        return Sides::NoCell;
+        return None;
     }
     if !is_side(level, west.0, LON_END) {
-        return Sides::NoCell;
+        return None;
     }
     if !is_side(level, south.0, LAT_END) {
-        return Sides::NoCell;
+        return None;
     }
-    Sides::Of(Rectangle {
+    Some(Rectangle {
         west,
         east: Lon(high_side(level, west.0) as u32),
         south,

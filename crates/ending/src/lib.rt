@@ -12,7 +12,7 @@ ghost use Rattle.chosen.specs.declared.Choice.TheVariants.{At};
 
 use chosen::Choice;
 use code::Fields;
-use ground::{Cell, Rectangle, Sides};
+use ground::{Cell, Rectangle};
 pub use scale::scale_of;
 use unit::Coded;
 
@@ -33,8 +33,8 @@ fn end_at(room: &mut [u8], r: Rectangle, number: u32, c: Cell) -> Coded
 {
     let found = cells::sides_found(c);
     match found {
-        Sides::Of(sides) => end(room, fields::fields(r, number, c, sides)),
-        Sides::NoCell => Coded::NoCell,
+        Some(sides) => end(room, fields::fields(r, number, c, sides)),
+        None => Coded::NoCell,
     }
 }
 

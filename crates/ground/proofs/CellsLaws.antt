@@ -1,13 +1,12 @@
 -- The laws of a cell, for the level and the direction as parameters: its high side is above its low one, the test for a cell tells, its
 -- sides are whole multiples of the smallest size, and the location cell lies within it. Assumes nothing.
-use Rattle.std.specs.Prelude.{ℕ, ◌+◌, ◌-◌, ◌*◌, ◌/◌, ◌%◌, ◌≤◌, ◌<◌, min, ◌≡◌, refl, ◌≢◌, Bool, true, false, cond, ◌&&◌, leb, eqb}
+use Rattle.std.specs.Prelude.{ℕ, ◌+◌, ◌-◌, ◌*◌, ◌/◌, ◌%◌, ◌≤◌, ◌<◌, min, ◌≡◌, refl, ◌≢◌, Bool, true, false, cond, ◌&&◌, leb, eqb, Some, None}
 use Rattle.std.specs.Int.{◌∣◌}
 use Rattle.std.proofs.Math.Nat.{dvd-add, dvd-sub, dvd-mul_left_of_dvd, dvd_of_mod-eq-zero, mod-eq-zero_of_dvd, le_of_dvd, lt-div-mul-add}
 use Rattle.std.proofs.Common.{arith, ap, subst, ◌∙◌, eqb→eq, leb-true, leb-false, eqb-true, le-leb, eq-eqb}
 use Rattle.std.proofs.lemmas.Bool.{false≢true, eqb-false}
 use Rattle.ground.specs.declared.Rectangle.{Rectangle}
 use Rattle.ground.specs.declared.Cell.{Cell}
-use Rattle.ground.specs.declared.cells.Sides.TheVariants.{Of, NoCell}
 use Rattle.ground.specs.Levels.{lat, lon, degree, minute, lat_end, lon_end, coarsest_level, finest_level, IsLevel, smallest_size, size_of}
 use Rattle.ground.specs.Levels.{minute_level}
 use Rattle.ground.proofs.LevelsLaws.{at_level, size_least, size_whole}
@@ -54,20 +53,20 @@ side_ends level a end e = at (eqb (low_side level a) a) (leb (high_side level a)
     at false u k h = absurd (false≢true h)
 
 -- Where sides are found there is a cell, and they are its own
-pub found_of : (c : Cell) (r : Rectangle) → Of r ≡ sides_found c → (is_cell c ≡ true) × (r ≡ sides_of c)
+pub found_of : (c : Cell) (r : Rectangle) → Some r ≡ sides_found c → (is_cell c ≡ true) × (r ≡ sides_of c)
 unfolding sides_found
 found_of c r e = at (is_cell c) e
   where
-    at : (t : Bool) → Of r ≡ cond t (Of (sides_of c)) NoCell → (t ≡ true) × (r ≡ sides_of c)
+    at : (t : Bool) → Some r ≡ cond t (Some (sides_of c)) None → (t ≡ true) × (r ≡ sides_of c)
     at true k = (refl, cc)
     at false k = let none : ◌≡◌ {A = ℕ} 0 1 = cc in absurd (omega arith)
 
 -- Where none are found there is none
-pub found_none : (c : Cell) → NoCell ≡ sides_found c → is_cell c ≡ false
+pub found_none : (c : Cell) → None ≡ sides_found c → is_cell c ≡ false
 unfolding sides_found
 found_none c e = at (is_cell c) e
   where
-    at : (t : Bool) → NoCell ≡ cond t (Of (sides_of c)) NoCell → t ≡ false
+    at : (t : Bool) → None ≡ cond t (Some (sides_of c)) None → t ≡ false
     at true k = let none : ◌≡◌ {A = ℕ} 0 1 = cc in absurd (omega arith)
     at false k = refl
 

@@ -1,11 +1,9 @@
 -- Cells (document 01, "Angles and grid" and "The cell inside"): their cuts and sides, which cells there are, and the location cell. Each
 -- direction by itself is an angle; a latitude and a longitude stay apart. Assumes nothing.
-use Rattle.std.specs.Prelude.{ℕ, ◌+◌, ◌-◌, ◌*◌, ◌/◌, ◌%◌, ◌≤◌, min, ◌≡◌, Bool, cond, ◌&&◌, leb, eqb}
+use Rattle.std.specs.Prelude.{ℕ, ◌+◌, ◌-◌, ◌*◌, ◌/◌, ◌%◌, ◌≤◌, min, ◌≡◌, Bool, cond, ◌&&◌, leb, eqb, Option, Some, None}
 use Rattle.ground.specs.declared.Point.{Point}
 use Rattle.ground.specs.declared.Rectangle.{Rectangle}
 use Rattle.ground.specs.declared.Cell.{Cell}
-use Rattle.ground.specs.declared.cells.Sides.{Sides}
-use Rattle.ground.specs.declared.cells.Sides.TheVariants.{Of, NoCell}
 use Rattle.ground.specs.Levels.{lat, lon, degree, minute, lat_end, lon_end, coarsest_level, finest_level, IsLevel, size_of, minute_level}
 use Rattle.ground.specs.Rectangles.{centre_of}
 
@@ -74,5 +72,5 @@ is_cell c =
     && is_side c.level c.south.0 lat_end
 
 -- Its sides, or none
-unfoldable pub sides_found : Cell → Sides
-sides_found c = cond (is_cell c) (Of (sides_of c)) NoCell
+unfoldable pub sides_found : Cell → Option Rectangle
+sides_found c = cond (is_cell c) (Some (sides_of c)) None

@@ -3,15 +3,6 @@ ghost use Rattle.std.specs.Prelude.{◌≡◌, ◌≤◌};
 ghost use Rattle.ground.specs.Levels.{degree, minute};
 ghost use Rattle.ground.specs.Cells.{afresh as Cells·afresh};
 
-use crate::Rectangle;
-
-// The sides of a cell; or none, where it is no cell of levels 9 to 27 within the range.
-#[derive(Drop)]
-pub enum Sides {
-    Of(Rectangle),
-    NoCell,
-}
-
 // Where cells of a level start afresh: at each degree, or at each minute.
 pub fn afresh(level: u32) -> u32
     ensures value { result ≡ Cells·afresh level }

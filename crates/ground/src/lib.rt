@@ -8,7 +8,7 @@ mod rectangles;
 ghost use Rattle.std.specs.Prelude.{◌≡◌};
 ghost use Rattle.ground.specs.Levels.{size_of};
 
-pub use cells::{Sides, afresh};
+pub use cells::afresh;
 pub use halves::{lat_split, lon_split, narrowest};
 pub use rectangles::{centre, south_west, widened};
 

@@ -11,19 +11,19 @@ use Rattle.ending.proofs.end_at.Goals as goal
 
 pub fields-requires : goal.fields-requires
 fields-requires c =
-    let found : (is_cell c.args.c ≡ true) × (c.in-Of.sides ≡ sides_of c.args.c) = found_of c.args.c c.in-Of.sides (sym c.in-Of.is ∙ c.sides_found-found.ensures) in
+    let found : (is_cell c.args.c ≡ true) × (c.in-Some.sides ≡ sides_of c.args.c) = found_of c.args.c c.in-Some.sides (sym c.in-Some.is ∙ c.sides_found-found.ensures) in
     found.1
 
-pub returns-in-Of : goal.returns-in-Of
-returns-in-Of c =
-    let found : (is_cell c.args.c ≡ true) × (c.in-Of.sides ≡ sides_of c.args.c) = found_of c.args.c c.in-Of.sides (sym c.in-Of.is ∙ c.sides_found-found.ensures) in
+pub returns-in-Some : goal.returns-in-Some
+returns-in-Some c =
+    let found : (is_cell c.args.c ≡ true) × (c.in-Some.sides ≡ sides_of c.args.c) = found_of c.args.c c.in-Some.sides (sym c.in-Some.is ∙ c.sides_found-found.ensures) in
     let a = c.args in
     c.end.ensures
     ∙ ap (λ (f : Fields). ending (writing a.room.now f)) c.fields.ensures
     ∙ finish_cell a.room.now a.r a.number a.c found.0
 
-pub returns-in-NoCell : goal.returns-in-NoCell
-returns-in-NoCell c =
+pub returns-in-None : goal.returns-in-None
+returns-in-None c =
     let a = c.args in
     finish_none a.room.now a.r a.number a.c
-    (found_none a.c (sym c.in-NoCell.is ∙ c.sides_found-found.ensures))
+    (found_none a.c (sym c.in-None.is ∙ c.sides_found-found.ensures))

@@ -16,8 +16,8 @@ returns-then-unmet c =
     let unmet-so = sym c.unmet.ensures ∙ c.if-unmet.true in
     c.odd_count.ensures
     ∙ ap (λ (p : Point). point_inside p es) c.centre.ensures
-    ∙ ap (λ (t : Bool). t && point_inside (centre_of c.in-Of.r) es) (sym unmet-so)
-    ∙ inside_found es a.c c.in-Of.r (sym c.in-Of.is ∙ c.sides_found-found.ensures)
+    ∙ ap (λ (t : Bool). t && point_inside (centre_of c.in-Some.r) es) (sym unmet-so)
+    ∙ inside_found es a.c c.in-Some.r (sym c.in-Some.is ∙ c.sides_found-found.ensures)
 
 pub returns-else-unmet : goal.returns-else-unmet
 returns-else-unmet c =
@@ -25,11 +25,11 @@ returns-else-unmet c =
     let es = edges_in a.edges.now in
     let met = sym c.unmet.ensures ∙ c.if-unmet.false in
     c.if-unmet.false
-    ∙ ap (λ (t : Bool). t && point_inside (centre_of c.in-Of.r) es) (sym met)
-    ∙ inside_found es a.c c.in-Of.r (sym c.in-Of.is ∙ c.sides_found-found.ensures)
+    ∙ ap (λ (t : Bool). t && point_inside (centre_of c.in-Some.r) es) (sym met)
+    ∙ inside_found es a.c c.in-Some.r (sym c.in-Some.is ∙ c.sides_found-found.ensures)
 
-pub returns-in-NoCell : goal.returns-in-NoCell
-returns-in-NoCell c =
+pub returns-in-None : goal.returns-in-None
+returns-in-None c =
     let a = c.args in
-    let none = found_none a.c (sym c.in-NoCell.is ∙ c.sides_found-found.ensures) in
+    let none = found_none a.c (sym c.in-None.is ∙ c.sides_found-found.ensures) in
     ap (λ (t : Bool). t && inside (edges_in a.edges.now) a.c) (sym none)
