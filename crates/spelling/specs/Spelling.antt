@@ -1,11 +1,11 @@
 -- The twenty letters as two numbers (document 01, "The twenty characters"): the location, of 11 letters and 55 bits, and the rest, which
 -- is scale, spans and unit number, of 9 letters and 45 bits. Assumes nothing.
-use Rattle.std.specs.Prelude.{ℕ, cond, not, List, [], ◌∷◌, ◌++◌, eqb, ltb, length, take, drop}
+use Rattle.std.specs.Prelude.{ℕ, cond, not, List, [], ◌∷◌, ◌++◌, eqb, ltb, length, take, drop, Result, Ok, Err}
 use Rattle.replies.specs.Replies.{Said, refused, accepted, Check, check, check_at, run}
 use Rattle.letters.specs.Alphabet.{first_other}
 use Rattle.letters.specs.Letters.{letters, spelled_in, number_in}
-use Rattle.spelling.specs.declared.Spelled.{Spelled}
-use Rattle.spelling.specs.declared.Spelled.TheVariants as spelled
+use Rattle.spelling.specs.declared.Misspelled.{Misspelled}
+use Rattle.spelling.specs.declared.Misspelled.TheVariants.{Length, Letter}
 
 -- Two numbers spelled, high letter first
 unfoldable pub spelled_both : ℕ → ℕ → List ℕ
@@ -48,7 +48,7 @@ numbers_in text =
     cond (eqb (run (text_checks text)).number 0) (two_numbers (location_in text) (rest_in text)) (no_numbers (run (text_checks text)))
 
 -- The number, the place and the two numbers of each answer
-abbrev pub spells : Spelled → Numbers
-spells (spelled.Numbers location rest) = two_numbers location rest
-spells spelled.Length = no_numbers (refused 11 0)
-spells (spelled.Letter byte) = no_numbers (refused 12 byte)
+abbrev pub spells : Result (ℕ × ℕ) Misspelled → Numbers
+spells (Ok (location, rest)) = two_numbers location rest
+spells (Err Length) = no_numbers (refused 11 0)
+spells (Err (Letter byte)) = no_numbers (refused 12 byte)

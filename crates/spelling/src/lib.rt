@@ -5,30 +5,29 @@
 ghost use Rattle.std.specs.Prelude.{◌≡◌};
 ghost use Rattle.spelling.specs.Spelling.{numbers_in, spells, spelled_into};
 
-// What a text spells: its location and the rest of its letters as two numbers, or what is refused
-// (11 and 12).
-#[derive(Drop)]
-pub enum Spelled {
-    Numbers(u64, u64),
+// Why a text spells no numbers: its length is not 20 (11), or the byte at this place is no
+// letter (12).
+#[derive(Clone, Copy)]
+pub enum Misspelled {
     Length,
     Letter(u32),
 }
 
-// The two numbers of a text of any length and any bytes.
-pub fn numbers_in(text: &[u8]) -> Spelled
+// The two numbers of a text of any length and any bytes: its location, and the rest of its letters.
+pub fn numbers_in(text: &[u8]) -> Result<(u64, u64), Misspelled>
     ensures { spells result ≡ numbers_in text.now }
 {
     if text.len() != 20 {
-        return Spelled::Length;
+        return Err(Misspelled::Length);
     }
     let other = letters::first_other(text);
     if other < text.len() {
-        return Spelled::Letter(other as u32);
+        return Err(Misspelled::Letter(other as u32));
     }
-    Spelled::Numbers(
+    Ok((
         letters::number(&text[0..11]),
         letters::number(&text[11..20]),
-    )
+    ))
 }
 
 // Spells two numbers into bytes 0 to 19 of a room, and writes nothing into a shorter one. Bits
