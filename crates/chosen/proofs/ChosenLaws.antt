@@ -1,6 +1,6 @@
 -- The computation of the chosen cell gives what document 01 says of it ("The cell inside"): there is at most one chosen cell, the sides
 -- that are tried are all low sides over the extent in turn, and what is found first is chosen. Assumes nothing.
-use Rattle.std.specs.Prelude.{ℕ, zero, suc, ◌+◌, ◌-◌, ◌*◌, ◌/◌, ◌≤◌, ◌<◌, ◌≡◌, ◌⊎◌, Bool, true, false, cond, List, [], ◌∷◌, T, ltb}
+use Rattle.std.specs.Prelude.{ℕ, zero, suc, ◌+◌, ◌-◌, ◌*◌, ◌/◌, ◌≤◌, ◌<◌, ◌≡◌, ◌⊎◌, Bool, true, false, cond, List, [], ◌∷◌, T, ltb, Option, Some, None}
 use Rattle.std.proofs.Common.{eq-or-lt_of_le, arith, sym, ap, ap₂, subst, subst₂, ◌∙◌, inl, inr, ltb-true, ltb-false}
 use Rattle.std.proofs.Math.Path.{refl}
 use Rattle.facts.specs.Tests.{true_of}
@@ -15,8 +15,6 @@ use Rattle.ground.proofs.CellsLaws.{low_below_high, sides_smallest}
 use Rattle.ground.proofs.SidesLaws.{low_most, low_low, below_high, high_low, none_between, side_end}
 use Rattle.edge.specs.Edge.{Edge}
 use Rattle.boundary.specs.Boundary.{inside}
-use Rattle.chosen.specs.declared.Choice.{Choice}
-use Rattle.chosen.specs.declared.Choice.TheVariants.{At, Nowhere}
 use Rattle.chosen.specs.Chosen.{Before, Chosen, sides_from, sides_over, or_else, first_among, tried, wests, souths, try_south, try_west, try_level, choose, Over}
 use Rattle.chosen.specs.InExtents.{in_extents}
 
@@ -142,56 +140,56 @@ module _ (level : ℕ) (l : IsLevel level) where
       (h.is, side_end level l n h.is h.below most)
 
 -- Trying a list of numbers gives a cell: one of them gives it, and every lesser one gives none
-pub record Found (try : ℕ → Choice) (xs : List ℕ) (c : Cell) : Type 0 where
+pub record Found (try : ℕ → Option Cell) (xs : List ℕ) (c : Cell) : Type 0 where
   pub number : ℕ
   pub among : In number xs
-  pub gives : try number ≡ At c
-  pub lesser : (y : ℕ) → In y xs → y < number → try y ≡ Nowhere
+  pub gives : try number ≡ Some c
+  pub lesser : (y : ℕ) → In y xs → y < number → try y ≡ None
 
 -- Where trying gives no cell, none of them gives one
-pub first_none : (try : ℕ → Choice) (xs : List ℕ) → first_among try xs ≡ Nowhere → Each (λ (x : ℕ). try x ≡ Nowhere) xs
+pub first_none : (try : ℕ → Option Cell) (xs : List ℕ) → first_among try xs ≡ None → Each (λ (x : ℕ). try x ≡ None) xs
 first_none try [] e = tt
 first_none try (x ∷ xs) e = at (try x) e (first_none try xs)
   where
-    at : (t : Choice) → or_else t (λ _. first_among try xs) ≡ Nowhere
-        → (first_among try xs ≡ Nowhere → Each (λ (y : ℕ). try y ≡ Nowhere) xs)
-        → (t ≡ Nowhere) × Each (λ (y : ℕ). try y ≡ Nowhere) xs
-    at (At c) k later = let none : ◌≡◌ {A = ℕ} 0 1 = cc in absurd (omega arith)
-    at Nowhere k later = (refl, later k)
+    at : (t : Option Cell) → or_else t (λ _. first_among try xs) ≡ None
+        → (first_among try xs ≡ None → Each (λ (y : ℕ). try y ≡ None) xs)
+        → (t ≡ None) × Each (λ (y : ℕ). try y ≡ None) xs
+    at (Some c) k later = let none : ◌≡◌ {A = ℕ} 0 1 = cc in absurd (omega arith)
+    at None k later = (refl, later k)
 
 -- Where trying a list in increasing order gives a cell, the least number that gives one gives it
-pub first_found : (try : ℕ → Choice) (xs : List ℕ) {c : Cell} → Rising xs → first_among try xs ≡ At c → Found try xs c
+pub first_found : (try : ℕ → Option Cell) (xs : List ℕ) {c : Cell} → Rising xs → first_among try xs ≡ Some c → Found try xs c
 first_found try [] r e = let none : ◌≡◌ {A = ℕ} 0 1 = cc in absurd (omega arith)
 first_found try (x ∷ xs) {c} r e = at (try x) refl e (first_found try xs r.1)
   where
-    at : (t : Choice) → try x ≡ t → or_else t (λ _. first_among try xs) ≡ At c → (first_among try xs ≡ At c → Found try xs c)
+    at : (t : Option Cell) → try x ≡ t → or_else t (λ _. first_among try xs) ≡ Some c → (first_among try xs ≡ Some c → Found try xs c)
         → Found try (x ∷ xs) c
-    at (At d) here k later = record { number = x; among = inl refl; gives = here ∙ k; lesser = lesser }
+    at (Some d) here k later = record { number = x; among = inl refl; gives = here ∙ k; lesser = lesser }
       where
-        lesser : (y : ℕ) → In y (x ∷ xs) → y < x → try y ≡ Nowhere
+        lesser : (y : ℕ) → In y (x ∷ xs) → y < x → try y ≡ None
         lesser y (inl e) h = let none : ⊥ = omega arith in absurd none
         lesser y (inr m) h = let none : ⊥ = omega (arith, each_in (λ z. x < z) xs y r.0 m) in absurd none
-    at Nowhere here k later =
+    at None here k later =
         let f : Found try xs c = later k in
         record { number = f.number; among = inr f.among; gives = f.gives; lesser = lesser f }
       where
-        lesser : (f : Found try xs c) (y : ℕ) → In y (x ∷ xs) → y < f.number → try y ≡ Nowhere
+        lesser : (f : Found try xs c) (y : ℕ) → In y (x ∷ xs) → y < f.number → try y ≡ None
         lesser f y (inl e) h = ap try e ∙ here
         lesser f y (inr m) h = f.lesser y m h
 
 -- Where trying a cell gives one, it is that cell and it is inside
-tried_at : (es : List Edge) (c : Cell) {d : Cell} → tried es c ≡ At d → T (inside es c) × (c ≡ d)
+tried_at : (es : List Edge) (c : Cell) {d : Cell} → tried es c ≡ Some d → T (inside es c) × (c ≡ d)
 tried_at es c {d} e = at (inside es c) e
   where
-    at : (b : Bool) → cond b (At c) Nowhere ≡ At d → T b × (c ≡ d)
+    at : (b : Bool) → cond b (Some c) None ≡ Some d → T b × (c ≡ d)
     at true k = (tt, cc)
     at false k = let none : ◌≡◌ {A = ℕ} 0 1 = cc in absurd (omega arith)
 
 -- and where trying gives none it is not inside
-tried_none : (es : List Edge) (c : Cell) → tried es c ≡ Nowhere → T (inside es c) → ⊥
+tried_none : (es : List Edge) (c : Cell) → tried es c ≡ None → T (inside es c) → ⊥
 tried_none es c e t = at (inside es c) e t
   where
-    at : (b : Bool) → cond b (At c) Nowhere ≡ Nowhere → T b → ⊥
+    at : (b : Bool) → cond b (Some c) None ≡ None → T b → ⊥
     at true k t = let none : ◌≡◌ {A = ℕ} 0 1 = cc in omega arith
     at false k t = t
 
@@ -221,26 +219,26 @@ module _ {r : Rectangle} {es : List Edge} (o : Over r es) where
     level_in = levels_all d.level is.level
 
     -- and trying them gives a cell
-    some_south : try_south es d.level d.west.0 d.south.0 ≡ Nowhere → ⊥
+    some_south : try_south es d.level d.west.0 d.south.0 ≡ None → ⊥
     some_south e = tried_none es d e t
 
-    some_west : try_west r es d.level d.west.0 ≡ Nowhere → ⊥
+    some_west : try_west r es d.level d.west.0 ≡ None → ⊥
     some_west e =
         some_south
-        (each_in (λ n. try_south es d.level d.west.0 n ≡ Nowhere) (souths r d.level) d.south.0
+        (each_in (λ n. try_south es d.level d.west.0 n ≡ None) (souths r d.level) d.south.0
         (first_none (try_south es d.level d.west.0) (souths r d.level) e) south_in)
 
-    some_level : try_level r es d.level ≡ Nowhere → ⊥
+    some_level : try_level r es d.level ≡ None → ⊥
     some_level e =
         some_west
-        (each_in (λ n. try_west r es d.level n ≡ Nowhere) (wests r d.level) d.west.0
+        (each_in (λ n. try_west r es d.level n ≡ None) (wests r d.level) d.west.0
         (first_none (try_west r es d.level) (wests r d.level) e) west_in)
 
   -- Where the computation says none, no cell of levels 9 to 27 is inside
-  pub choose_none : choose r es ≡ Nowhere → (c : Cell) → IsCell c → T (inside es c) → ⊥
+  pub choose_none : choose r es ≡ None → (c : Cell) → IsCell c → T (inside es c) → ⊥
   choose_none e c is t =
       some_level c is t
-      (each_in (λ n. try_level r es n ≡ Nowhere) levels c.level
+      (each_in (λ n. try_level r es n ≡ None) levels c.level
       (first_none (try_level r es) levels (sym choose_is ∙ e)) (level_in c is t))
 
   module _ {c : Cell} (l : Found (try_level r es) levels c) (w : Found (try_west r es l.number) (wests r l.number) c)
@@ -273,11 +271,11 @@ module _ {r : Rectangle} {es : List Edge} (o : Over r es) where
     none_before d is t (inl h) = some_level d is t (l.lesser d.level (level_in d is t) h)
     none_before d is t (inr (e, inl h)) =
         some_west d is t
-        (subst (λ (n : ℕ). try_west r es n d.west.0 ≡ Nowhere) (sym e)
+        (subst (λ (n : ℕ). try_west r es n d.west.0 ≡ None) (sym e)
         (w.lesser d.west.0 (subst (λ (n : ℕ). In d.west.0 (wests r n)) e (west_in d is t)) h))
     none_before d is t (inr (e, inr (k, h))) =
         some_south d is t
-        (subst₂ (λ (n m : ℕ). try_south es n m d.south.0 ≡ Nowhere) (sym e) (sym k)
+        (subst₂ (λ (n m : ℕ). try_south es n m d.south.0 ≡ None) (sym e) (sym k)
         (s.lesser d.south.0 (subst (λ (n : ℕ). In d.south.0 (souths r n)) e (south_in d is t)) h))
 
     -- so it is chosen
@@ -288,7 +286,7 @@ module _ {r : Rectangle} {es : List Edge} (o : Over r es) where
 
   module _ where
     -- What the computation gives is the chosen cell
-    pub choose_chosen : {c : Cell} → choose r es ≡ At c → Chosen es c
+    pub choose_chosen : {c : Cell} → choose r es ≡ Some c → Chosen es c
     choose_chosen {c} e =
         let l : Found (try_level r es) levels c = first_found (try_level r es) levels levels_rising (sym choose_is ∙ e) in
         let level = levels_are l.number l.among in
@@ -301,33 +299,33 @@ module _ {r : Rectangle} {es : List Edge} (o : Over r es) where
         found_chosen l w s
 
     -- and it gives the chosen cell where there is one
-    pub chosen_choose : {c : Cell} → Chosen es c → choose r es ≡ At c
+    pub chosen_choose : {c : Cell} → Chosen es c → choose r es ≡ Some c
     chosen_choose {c} h = at (choose r es) refl
       where
-        at : (t : Choice) → choose r es ≡ t → t ≡ At c
-        at (At d) e = ap At (one_chosen es (choose_chosen e) h)
-        at Nowhere e = absurd (choose_none e c h.cell h.within)
+        at : (t : Option Cell) → choose r es ≡ t → t ≡ Some c
+        at (Some d) e = ap Some (one_chosen es (choose_chosen e) h)
+        at None e = absurd (choose_none e c h.cell h.within)
 
     -- It says none where no cell of levels 9 to 27 is inside
-    pub none_choose : ((c : Cell) → IsCell c → T (inside es c) → ⊥) → choose r es ≡ Nowhere
+    pub none_choose : ((c : Cell) → IsCell c → T (inside es c) → ⊥) → choose r es ≡ None
     none_choose none = at (choose r es) refl
       where
-        at : (t : Choice) → choose r es ≡ t → t ≡ Nowhere
-        at (At c) e = let h : Chosen es c = choose_chosen e in absurd (none c h.cell h.within)
-        at Nowhere e = refl
+        at : (t : Option Cell) → choose r es ≡ t → t ≡ None
+        at (Some c) e = let h : Chosen es c = choose_chosen e in absurd (none c h.cell h.within)
+        at None e = refl
 
 -- Trying numbers in turn gives the same where trying each does
-among_same : (try other : ℕ → Choice) (xs : List ℕ) → ((x : ℕ) → In x xs → try x ≡ other x) → first_among try xs ≡ first_among other xs
+among_same : (try other : ℕ → Option Cell) (xs : List ℕ) → ((x : ℕ) → In x xs → try x ≡ other x) → first_among try xs ≡ first_among other xs
 among_same try other [] agree = refl
 among_same try other (x ∷ xs) agree =
-    ap₂ (λ (c d : Choice). or_else c (λ _. d)) (agree x (inl refl)) (among_same try other xs (λ y m. agree y (inr m)))
+    ap₂ (λ (c d : Option Cell). or_else c (λ _. d)) (agree x (inl refl)) (among_same try other xs (λ y m. agree y (inr m)))
 
 -- The computation gives the same over edges that have the same cells of levels 9 to 27 inside
 module _ (r : Rectangle) (es ds : List Edge) (agree : (c : Cell) → IsLevel c.level → inside es c ≡ inside ds c) where
   south_same : (level : ℕ) → IsLevel level → (west south : ℕ) → try_south es level west south ≡ try_south ds level west south
   south_same level l west south =
       let c : Cell = record { level = level; west = lon west; south = lat south } in
-      ap (λ (b : Bool). cond b (At c) Nowhere) (agree c l)
+      ap (λ (b : Bool). cond b (Some c) None) (agree c l)
 
   west_same : (level : ℕ) → IsLevel level → (west : ℕ) → try_west r es level west ≡ try_west r ds level west
   west_same level l west =

@@ -1,5 +1,5 @@
 -- The chosen cell (document 01, "The cell inside"), twice: by what document 01 says of it, and as a computation. Assumes nothing.
-use Rattle.std.specs.Prelude.{ℕ, zero, suc, ◌+◌, ◌-◌, ◌/◌, ◌≤◌, ◌<◌, ◌≡◌, ◌⊎◌, true, false, cond, List, [], ◌∷◌, T, ltb}
+use Rattle.std.specs.Prelude.{ℕ, zero, suc, ◌+◌, ◌-◌, ◌/◌, ◌≤◌, ◌<◌, ◌≡◌, ◌⊎◌, true, false, cond, List, [], ◌∷◌, T, ltb, Option, Some, None}
 use Rattle.facts.specs.Lists.{Each}
 use Rattle.ground.specs.declared.Rectangle.{Rectangle}
 use Rattle.ground.specs.declared.Cell.{Cell}
@@ -9,8 +9,6 @@ use Rattle.ground.specs.Cells.{low_side, high_side, IsCell}
 use Rattle.edge.specs.Edge.{Edge}
 use Rattle.boundary.specs.Boundary.{inside}
 use Rattle.boundary.specs.Closed.{Closed, Ends}
-use Rattle.chosen.specs.declared.Choice.{Choice}
-use Rattle.chosen.specs.declared.Choice.TheVariants.{At, Nowhere}
 
 -- The least west side, then the least south side
 abbrev pub Lefter : Cell → Cell → Type 0
@@ -36,18 +34,18 @@ abbrev pub sides_over : ℕ → ℕ → ℕ → List ℕ
 sides_over level from to = sides_from ((to - from) / smallest_size + 2) level (low_side level from) to
 
 -- A first answer, or else another
-abbrev pub or_else : Choice → (Unit {0} → Choice) → Choice
-or_else (At c) other = At c
-or_else Nowhere other = other tt
+abbrev pub or_else : Option Cell → (Unit {0} → Option Cell) → Option Cell
+or_else (Some c) other = Some c
+or_else None other = other tt
 
 -- The first cell that trying numbers in turn gives
-abbrev pub first_among : (ℕ → Choice) → List ℕ → Choice
-first_among try [] = Nowhere
+abbrev pub first_among : (ℕ → Option Cell) → List ℕ → Option Cell
+first_among try [] = None
 first_among try (x ∷ xs) = or_else (try x) (λ _. first_among try xs)
 
 -- A cell if it is inside
-abbrev pub tried : List Edge → Cell → Choice
-tried es c = cond (inside es c) (At c) Nowhere
+abbrev pub tried : List Edge → Cell → Option Cell
+tried es c = cond (inside es c) (Some c) None
 
 -- The west sides of a level that are tried over an extent, and the south sides
 abbrev pub wests : Rectangle → ℕ → List ℕ
@@ -57,19 +55,19 @@ abbrev pub souths : Rectangle → ℕ → List ℕ
 souths r level = sides_over level r.south.0 r.north.0
 
 -- A cell by its level, its west and its south side, if it is inside
-abbrev pub try_south : List Edge → ℕ → ℕ → ℕ → Choice
+abbrev pub try_south : List Edge → ℕ → ℕ → ℕ → Option Cell
 try_south es level west south = tried es (record { level = level; west = lon west; south = lat south })
 
 -- South sides in turn
-abbrev pub try_west : Rectangle → List Edge → ℕ → ℕ → Choice
+abbrev pub try_west : Rectangle → List Edge → ℕ → ℕ → Option Cell
 try_west r es level west = first_among (try_south es level west) (souths r level)
 
 -- West sides in turn
-abbrev pub try_level : Rectangle → List Edge → ℕ → Choice
+abbrev pub try_level : Rectangle → List Edge → ℕ → Option Cell
 try_level r es level = first_among (try_west r es level) (wests r level)
 
 -- The chosen cell as a computation, over the extents and the edges of a boundary: levels 9 to 27 in turn
-unfoldable pub choose : Rectangle → List Edge → Choice
+unfoldable pub choose : Rectangle → List Edge → Option Cell
 choose r es = first_among (try_level r es) levels
 
 -- What a search may take for granted of extents and edges: the edges close, both ends of each lie within the extents, and these within the

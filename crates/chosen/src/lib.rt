@@ -1,12 +1,4 @@
-// The chosen cell: what a search for it answers. What it is, by document 01's words and as a computation,
-// is in specs/Chosen.antt.
+// The chosen cell: what it is, by document 01's words and as a computation, with its laws. Definitions and
+// laws only, in specs/Chosen.antt, specs/InExtents.antt and proofs/; what a search for it answers is an
+// `Option` of a cell.
 #![tactic(auto)]
-
-use ground::Cell;
-
-// What a search for the chosen cell answers.
-#[derive(Clone, Copy)]
-pub enum Choice {
-    At(Cell),
-    Nowhere,
-}
