@@ -9,26 +9,26 @@ ghost use Rattle.angles.specs.Angles.{distance};
 pub fn lesser(a: u32, b: u32) -> u32
     ensures { result ≡ min a b }
 {
-    if a < b { a } else { b }
+    a.min(b)
 }
 
 // The greater of two.
 pub fn greater(a: u32, b: u32) -> u32
     ensures { result ≡ max a b }
 {
-    if a < b { b } else { a }
+    a.max(b)
 }
 
 // The distance of two angles.
 pub fn apart(a: u32, b: u32) -> u32
     ensures { result ≡ distance a b }
 {
-    if a < b { b - a } else { a - b }
+    a.abs_diff(b)
 }
 
 // An angle less another, and 0 where that is greater.
 pub fn less(a: u32, b: u32) -> u32
     ensures { result ≡ a - b }
 {
-    if a < b { 0 } else { a - b }
+    a.saturating_sub(b)
 }
