@@ -1,6 +1,6 @@
 -- The twenty characters (document 01, "The twenty characters" and "Replies"): the fields of a code and its two numbers, the rectangle, and
 -- what writing and reading answer. Assumes nothing.
-use Rattle.std.specs.Prelude.{ℕ, ◌+◌, ◌-◌, ◌*◌, ◌/◌, ◌%◌, ◌^◌, min, Bool, cond, not, ◌||◌, List, [], ◌∷◌, ◌++◌, eqb, leb, ltb, length}
+use Rattle.std.specs.Prelude.{ℕ, ◌+◌, ◌-◌, ◌*◌, ◌/◌, ◌%◌, ◌^◌, min, Bool, cond, not, ◌||◌, List, [], ◌∷◌, ◌++◌, eqb, leb, ltb, length, Result, Ok, Err}
 use Rattle.replies.specs.Replies.{Said, refused, accepted, Check, check, run, Outcome, outcome}
 use Rattle.ground.specs.declared.Point.{Point}
 use Rattle.ground.specs.declared.Rectangle.{Rectangle}
@@ -8,12 +8,15 @@ use Rattle.ground.specs.Levels.{lat, lon, lat_end, lon_end, size_of}
 use Rattle.ground.specs.Cells.{location_size}
 use Rattle.letters.specs.Digits.{value_of}
 use Rattle.location.specs.Location.{location_of, reference_in, lat_in, lon_in, degrees_in, minutes_in, seconds_in, hemisphere_in}
+use Rattle.spelling.specs.declared.Misspelled.{Misspelled}
+use Rattle.spelling.specs.declared.Misspelled.TheVariants as spelling
 use Rattle.spelling.specs.Spelling.{spelled_both, Numbers, numbers_in}
 use Rattle.code.specs.declared.Fields.{Fields}
-use Rattle.code.specs.declared.Written.{Written}
-use Rattle.code.specs.declared.Written.TheVariants as written
+use Rattle.code.specs.declared.WriteError.{WriteError}
+use Rattle.code.specs.declared.WriteError.TheVariants as writes
 use Rattle.code.specs.declared.Reading.{Reading}
-use Rattle.code.specs.declared.Reading.TheVariants as reads
+use Rattle.code.specs.declared.ReadError.{ReadError}
+use Rattle.code.specs.declared.ReadError.TheVariants as reads
 
 -- The location is one number. The rest is another: scale, 1 character; four spans, order E, W, S, N; unit number, 4 characters, base 32,
 -- high first
@@ -91,16 +94,16 @@ unfoldable pub writing : List ℕ → Fields → Outcome
 writing room f = outcome (run (room_check room ++ field_checks f)) (code_of f) room
 
 -- The number and the place of each answer of writing
-abbrev pub says : Written → Said
-says written.Accepted = accepted
-says written.Output = refused 21 0
-says written.Reference = refused 22 0
-says written.Scale = refused 23 0
-says written.Span = refused 24 0
-says written.Number = refused 25 0
+abbrev pub says : Result (Unit {0}) WriteError → Said
+says (Ok done) = accepted
+says (Err writes.Output) = refused 21 0
+says (Err writes.Reference) = refused 22 0
+says (Err writes.Scale) = refused 23 0
+says (Err writes.Span) = refused 24 0
+says (Err writes.Number) = refused 25 0
 
 -- What writing leaves, from its answer and the room
-abbrev pub leaves : Written → List ℕ → Outcome
+abbrev pub leaves : Result (Unit {0}) WriteError → List ℕ → Outcome
 leaves answer room = record { said = says answer; room = room }
 
 -- A hemisphere bit 1
@@ -179,13 +182,18 @@ unfoldable pub reading : List ℕ → Told
 reading text = reading_on (numbers_in text)
 
 -- The number, the place, the fields and the sides of each answer of reading
-abbrev pub tells : Reading → Told
-tells (reads.Accepted f r) = record { said = accepted; fields = f; rectangle = r }
-tells reads.Length = tells_nothing (refused 11 0)
-tells (reads.Letter byte) = tells_nothing (refused 12 byte)
-tells reads.Closing = tells_nothing (refused 13 0)
-tells reads.Hemisphere = tells_nothing (refused 14 0)
-tells reads.Degrees = tells_nothing (refused 15 0)
-tells reads.Sixty = tells_nothing (refused 16 0)
-tells reads.Scale = tells_nothing (refused 17 0)
-tells reads.Span = tells_nothing (refused 18 0)
+abbrev pub tells : Result Reading ReadError → Told
+tells (Ok read) = record { said = accepted; fields = read.fields; rectangle = read.rectangle }
+tells (Err reads.Length) = tells_nothing (refused 11 0)
+tells (Err (reads.Letter byte)) = tells_nothing (refused 12 byte)
+tells (Err reads.Closing) = tells_nothing (refused 13 0)
+tells (Err reads.Hemisphere) = tells_nothing (refused 14 0)
+tells (Err reads.Degrees) = tells_nothing (refused 15 0)
+tells (Err reads.Sixty) = tells_nothing (refused 16 0)
+tells (Err reads.Scale) = tells_nothing (refused 17 0)
+tells (Err reads.Span) = tells_nothing (refused 18 0)
+
+-- Why a text that spells no numbers is not read
+abbrev pub misspelled : Misspelled → ReadError
+misspelled spelling.Length = reads.Length
+misspelled (spelling.Letter byte) = reads.Letter byte

@@ -3,9 +3,10 @@
 #![tactic(auto)]
 
 ghost use Rattle.std.specs.Prelude.{◌≡◌};
-ghost use Rattle.code.specs.Code.{outside as Code·outside, says, tells};
+ghost use Rattle.code.specs.Code.{outside as Code·outside, says, tells, misspelled};
 
 use ground::{Point, Rectangle};
+use spelling::Misspelled;
 
 // The fields of a code: its reference, scale, the four spans in the order E, W, S, N, and the
 // unit number. Laid out as in C, so that callers in other languages can have them.
@@ -24,10 +25,9 @@ pub struct Fields {
 // The finest level that a scale has.
 pub const FINEST_SCALE: u32 = 27;
 
-// What writing answers: acceptance, or what is refused (21 to 25).
+// Why fields are not written (21 to 25).
 #[derive(Clone, Copy)]
-pub enum Written {
-    Accepted,
+pub enum WriteError {
     Output,
     Reference,
     Scale,
@@ -35,10 +35,16 @@ pub enum Written {
     Number,
 }
 
-// What reading answers: the fields and the rectangle, or what is refused (11 to 18).
+// What an accepted text tells: the fields of its code, and their rectangle.
 #[derive(Clone, Copy)]
-pub enum Reading {
-    Accepted(Fields, Rectangle),
+pub struct Reading {
+    pub fields: Fields,
+    pub rectangle: Rectangle,
+}
+
+// Why a text is not read (11 to 18); a letter that is none is named by its place.
+#[derive(Clone, Copy)]
+pub enum ReadError {
     Length,
     Letter(u32),
     Closing,
@@ -49,51 +55,63 @@ pub enum Reading {
     Span,
 }
 
+// A text that spells no numbers is refused by the same number and place.
+impl From<Misspelled> for ReadError {
+    ghost from_gives = { λ text error. error ≡ misspelled text };
+
+    fn from(text: Misspelled) -> ReadError {
+        match text {
+            Misspelled::Length => ReadError::Length,
+            Misspelled::Letter(byte) => ReadError::Letter(byte),
+        }
+    }
+}
+
 // The number of an answer of writing.
-pub fn written_number(answer: Written) -> u32
+pub fn written_number(answer: Result<(), WriteError>) -> u32
     ensures { result ≡ (says answer).number }
 {
     match answer {
-        Written::Accepted => 0,
-        Written::Output => 21,
-        Written::Reference => 22,
-        Written::Scale => 23,
-        Written::Span => 24,
-        Written::Number => 25,
+        Ok(()) => 0,
+        Err(WriteError::Output) => 21,
+        Err(WriteError::Reference) => 22,
+        Err(WriteError::Scale) => 23,
+        Err(WriteError::Span) => 24,
+        Err(WriteError::Number) => 25,
     }
 }
 
 // The number of an answer of reading.
-pub fn reading_number(answer: Reading) -> u32
+pub fn reading_number(answer: Result<Reading, ReadError>) -> u32
     ensures { result ≡ (tells answer).said.number }
 {
     match answer {
-        Reading::Accepted(_, _) => 0,
-        Reading::Length => 11,
-        Reading::Letter(_) => 12,
-        Reading::Closing => 13,
-        Reading::Hemisphere => 14,
-        Reading::Degrees => 15,
-        Reading::Sixty => 16,
-        Reading::Scale => 17,
-        Reading::Span => 18,
+        Ok(_) => 0,
+        Err(ReadError::Length) => 11,
+        Err(ReadError::Letter(_)) => 12,
+        Err(ReadError::Closing) => 13,
+        Err(ReadError::Hemisphere) => 14,
+        Err(ReadError::Degrees) => 15,
+        Err(ReadError::Sixty) => 16,
+        Err(ReadError::Scale) => 17,
+        Err(ReadError::Span) => 18,
     }
 }
 
 // The place of an answer of reading: the first byte that is no letter, or 0.
-pub fn reading_place(answer: Reading) -> u32
+pub fn reading_place(answer: Result<Reading, ReadError>) -> u32
     ensures { result ≡ (tells answer).said.place }
 {
     match answer {
-        Reading::Accepted(_, _) => 0,
-        Reading::Length => 0,
-        Reading::Letter(byte) => byte,
-        Reading::Closing => 0,
-        Reading::Hemisphere => 0,
-        Reading::Degrees => 0,
-        Reading::Sixty => 0,
-        Reading::Scale => 0,
-        Reading::Span => 0,
+        Ok(_) => 0,
+        Err(ReadError::Length) => 0,
+        Err(ReadError::Letter(byte)) => byte,
+        Err(ReadError::Closing) => 0,
+        Err(ReadError::Hemisphere) => 0,
+        Err(ReadError::Degrees) => 0,
+        Err(ReadError::Sixty) => 0,
+        Err(ReadError::Scale) => 0,
+        Err(ReadError::Span) => 0,
     }
 }
 
