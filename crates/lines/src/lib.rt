@@ -18,6 +18,13 @@ pub const ROOM: usize = LONGEST + 1;
 // No reply to a line has more bytes: the line's number, `refused`, number and place.
 pub const REPLY: usize = 71;
 
+// The line that comes in: its number, and how many of its bytes stand in the room.
+#[derive(Clone, Copy)]
+pub struct Line {
+    pub number: u64,
+    pub len: usize,
+}
+
 // How many bytes of a line stand in a room after one byte more, which is not a line feed. The byte
 // goes into the room while the room lasts; the rest of a long line is passed over.
 pub fn add(room: &mut [u8], len: usize, byte: u8) -> usize

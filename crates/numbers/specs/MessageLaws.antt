@@ -1,11 +1,10 @@
 -- The number of a message and the text after it, by the number at a position of its line. Assumes nothing.
-use Rattle.std.specs.Prelude.{ℕ, suc, ◌+◌, ◌≤◌, ◌<◌, ◌≡◌, refl, ◌⊎◌, Bool, true, false, List, [], ◌∷◌, length, drop, eqb}
+use Rattle.std.specs.Prelude.{Some, None, ℕ, suc, ◌+◌, ◌≤◌, ◌<◌, ◌≡◌, refl, ◌⊎◌, Bool, true, false, List, [], ◌∷◌, length, drop, eqb}
 use Rattle.std.proofs.Common.{arith, ap, ◌∙◌, inl, inr, length-drop, drop-drop}
 use Rattle.facts.specs.Numbers.{either_way}
 use Rattle.lines.specs.Messages.{parted, unparted, led, part, message, not_of_this_form, numbered}
 use Rattle.numbers.specs.Numbers.{word, word_at, long_at}
 use Rattle.numbers.specs.NumbersLaws.{long_found, long_missed}
-use Rattle.numbers.specs.declared.Long.TheVariants.{At, Bad}
 
 -- a text is parted after its word, where a byte follows it
 abbrev Parts : List ℕ → Type 0
@@ -34,7 +33,7 @@ part_none (b ∷ t) h = pick (part_none t) (eqb b 32) refl h
 
 -- after a letter and a space: no number, a number at the line's end, a number before a space and the text
 module _ (letter : ℕ) (line : List ℕ) (at : ℕ) where
-  pub message_missed : long_at line at ≡ Bad → numbered letter (part (drop at line)) ≡ not_of_this_form
+  pub message_missed : long_at line at ≡ None → numbered letter (part (drop at line)) ≡ not_of_this_form
   message_missed m = pick (either_way (length t) (length (word t)))
     where
       t : List ℕ
@@ -44,7 +43,7 @@ module _ (letter : ℕ) (line : List ℕ) (at : ℕ) where
       pick (inl h) = rw (part_none t h)
       pick (inr h) = rw (part_word t h, long_missed line at m)
 
-  module _ (n end : ℕ) (m : long_at line at ≡ At n end) where
+  module _ (n end : ℕ) (m : long_at line at ≡ Some (n, end)) where
     pub message_ends : length line ≤ end → numbered letter (part (drop at line)) ≡ not_of_this_form
     message_ends h = rw (part_none (drop at line) (omega (arith, h, (long_found line at n end m).ends, length-drop at line)))
 

@@ -1,16 +1,8 @@
 -- The number at a position of a line, and the numbers of a text, each after one space. Assumes nothing.
-use Rattle.std.specs.Prelude.{ℕ, ◌+◌, cond, ◌&&◌, List, [], ◌∷◌, length, drop, leb, eqb}
+use Rattle.std.specs.Prelude.{Option, Some, None, ℕ, ◌+◌, cond, ◌&&◌, List, [], ◌∷◌, length, drop, leb, eqb}
 use Prim.Native.Char.{code}
 use Rattle.facts.specs.Lists.{every}
 use Rattle.lines.specs.Lines.{cut, is_within, is_number, is_digit, value, value_after}
-use Rattle.numbers.specs.declared.Long.{Long}
-use Rattle.numbers.specs.declared.Long.TheVariants.{At as At·l, Bad as Bad·l}
-use Rattle.numbers.specs.declared.Number.{Number}
-use Rattle.numbers.specs.declared.Number.TheVariants.{At, Bad}
-use Rattle.numbers.specs.declared.Numbers.{Numbers}
-use Rattle.numbers.specs.declared.Numbers.TheVariants.{Count, Bad as Bad·s}
-use Rattle.numbers.specs.declared.word.Word.{Word}
-use Rattle.numbers.specs.declared.word.Word.TheVariants.{Value, Other}
 
 -- ---- a number at a position
 
@@ -20,17 +12,17 @@ word [] = []
 word (x ∷ text) = cond (eqb x (code " ")) [] (x ∷ word text)
 
 -- the value of a number n with a word after it, where the word has digits alone and the value is at most `most`
-unfoldable pub digits_after : ℕ → ℕ → List ℕ → Word
-digits_after most n word = cond (every is_digit word && leb (value_after n word) most) (Value (value_after n word)) Other
+unfoldable pub digits_after : ℕ → ℕ → List ℕ → Option ℕ
+digits_after most n word = cond (every is_digit word && leb (value_after n word) most) (Some (value_after n word)) None
 
 -- the value of a word that is a number of at most `digits` digits, and at most `most`
-unfoldable pub word_of : ℕ → ℕ → List ℕ → Word
-word_of digits most word = cond (is_within digits most word) (Value (value word)) Other
+unfoldable pub word_of : ℕ → ℕ → List ℕ → Option ℕ
+word_of digits most word = cond (is_within digits most word) (Some (value word)) None
 
 -- a word's value, with the position after it
-abbrev pub ending_at : ℕ → Word → Long
-ending_at end (Value n) = At·l n end
-ending_at end Other = Bad·l
+abbrev pub ending_at : ℕ → Option ℕ → Option (ℕ × ℕ)
+ending_at end (Some n) = Some (n, end)
+ending_at end None = None
 
 -- the word at a position of a line, and the position after it
 abbrev pub word_at : List ℕ → ℕ → List ℕ
@@ -40,21 +32,16 @@ abbrev pub word_end : List ℕ → ℕ → ℕ
 word_end line at = at + length (word_at line at)
 
 -- the number of at most `digits` digits, and at most `most`, that starts at a position of a line
-unfoldable pub within_at : ℕ → ℕ → List ℕ → ℕ → Long
+unfoldable pub within_at : ℕ → ℕ → List ℕ → ℕ → Option (ℕ × ℕ)
 within_at digits most line at = ending_at (word_end line at) (word_of digits most (word_at line at))
 
 -- the message number there
-abbrev pub long_at : List ℕ → ℕ → Long
+abbrev pub long_at : List ℕ → ℕ → Option (ℕ × ℕ)
 long_at line at = within_at 20 18446744073709551615 line at
 
--- a number of 32 bits
-abbrev pub short : Long → Number
-short (At·l n end) = At n end
-short Bad·l = Bad
-
--- the number that starts at a position of a line
-unfoldable pub number_at : List ℕ → ℕ → Number
-number_at line at = short (within_at 10 4294967295 line at)
+-- the number of 32 bits that starts there
+abbrev pub number_at : List ℕ → ℕ → Option (ℕ × ℕ)
+number_at line at = within_at 10 4294967295 line at
 
 -- ---- the numbers of a text, each after one space
 
@@ -70,15 +57,15 @@ leading_of ([] ∷ words) = leading words
 leading_of ((b ∷ piece) ∷ words) = []
 
 -- how many numbers the words are, where all are numbers
-abbrev pub count_of : List (List ℕ) → Numbers
-count_of [] = Bad·s
-count_of ([] ∷ words) = cond (every is_number words) (Count (length words)) Bad·s
-count_of ((b ∷ piece) ∷ words) = Bad·s
+abbrev pub count_of : List (List ℕ) → Option ℕ
+count_of [] = None
+count_of ([] ∷ words) = cond (every is_number words) (Some (length words)) None
+count_of ((b ∷ piece) ∷ words) = None
 
 -- the numbers of a text up to the first word that is none
 unfoldable pub leading_in : List ℕ → List ℕ
 leading_in text = leading_of (cut (code " ") text)
 
 -- how many numbers a text is
-unfoldable pub count_in : List ℕ → Numbers
+unfoldable pub count_in : List ℕ → Option ℕ
 count_in text = count_of (cut (code " ") text)

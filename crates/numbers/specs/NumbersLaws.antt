@@ -4,7 +4,7 @@ use Prim.Native.Nat.{ℕ, suc, ◌+◌, ◌-◌, ◌*◌, ◌≤◌, ◌<◌}
 use Rattle.std.proofs.Common.{add-one, sym, ◌∙◌, length-take, drop_of_length-le, drop-cons, drop-drop, get_or-drop, lit<}
 use native.Mathlib.Omega.{arith}
 use Rattle.std.proofs.Math.Path.{◌≡◌, refl, ap}
-use Rattle.std.specs.Prelude.{Bool, cond, take, get_or, eqb}
+use Rattle.std.specs.Prelude.{Option, Some, None, Bool, cond, take, get_or, eqb}
 use Rattle.std.proofs.Math.Bool.{true, false, and-true, and-false, false≢true}
 use mathlib.Core.List.{List, [], ◌∷◌}
 use Rattle.std.proofs.Math.ListN.{length, drop, length-drop}
@@ -13,14 +13,8 @@ use Rattle.facts.specs.Lists.{every}
 use Rattle.facts.specs.Numbers.{not_above}
 use Rattle.lines.specs.Lines.{cut, longer, value_after, value, is_within, is_number}
 use Rattle.lines.specs.Messages.{is_long}
-use Rattle.numbers.specs.Numbers.{word, digits_after, word_of, ending_at, word_at, word_end, within_at, long_at, short, number_at}
+use Rattle.numbers.specs.Numbers.{word, digits_after, word_of, ending_at, word_at, word_end, within_at, long_at, number_at}
 use Rattle.numbers.specs.Numbers.{leading, leading_of, leading_in, count_of, count_in}
-use Rattle.numbers.specs.declared.Long.{Long}
-use Rattle.numbers.specs.declared.Long.TheVariants.{At as At·l, Bad as Bad·l}
-use Rattle.numbers.specs.declared.Number.TheVariants.{At, Bad}
-use Rattle.numbers.specs.declared.Numbers.{Numbers}
-use Rattle.numbers.specs.declared.Numbers.TheVariants.{Count, Bad as Bad·s}
-use Rattle.numbers.specs.declared.word.Word.TheVariants.{Value, Other}
 
 -- ---- digits
 
@@ -31,21 +25,21 @@ value_grows n [] = omega arith
 value_grows n (d ∷ t) = omega (arith, value_grows (10 * n + (d - 48)) t)
 
 -- a value that is too large stays so
-pub digits_over : (most n : ℕ) (t : List ℕ) → most < n → digits_after most n t ≡ Other
+pub digits_over : (most n : ℕ) (t : List ℕ) → most < n → digits_after most n t ≡ None
 unfolding digits_after
 digits_over most n t h = rw (lt-leb (value_after n t) most (omega (arith, value_grows n t)), and-false)
 
 -- at a position of a word: past its end, at a byte below `0`, at one above `9`, at a digit
 module _ (most : ℕ) (w : List ℕ) (i n : ℕ) where
-  pub digits_end : length w ≤ i → n ≤ most → digits_after most n (drop i w) ≡ Value n
+  pub digits_end : length w ≤ i → n ≤ most → digits_after most n (drop i w) ≡ Some n
   unfolding digits_after value_after
   digits_end h k = rw (drop_of_length-le w h, le-leb n most k)
 
-  pub digits_below : i < length w → get_or w i 0 < 48 → digits_after most n (drop i w) ≡ Other
+  pub digits_below : i < length w → get_or w i 0 < 48 → digits_after most n (drop i w) ≡ None
   unfolding digits_after
   digits_below h k = rw (drop-cons w i 0 h, lt-leb 48 (get_or w i 0) k)
 
-  pub digits_above : i < length w → 57 < get_or w i 0 → digits_after most n (drop i w) ≡ Other
+  pub digits_above : i < length w → 57 < get_or w i 0 → digits_after most n (drop i w) ≡ None
   unfolding digits_after
   digits_above h k = rw (drop-cons w i 0 h, lt-leb (get_or w i 0) 57 k, and-false)
 
@@ -96,15 +90,15 @@ word_stops (b ∷ t) h = pick (word_stops t) (eqb b 32) refl h
 
 -- what a word is: empty, too long, with a leading zero, and of any other length as its digits say
 module _ (digits most : ℕ) (w : List ℕ) where
-  pub word_none : length w < 1 → word_of digits most w ≡ Other
+  pub word_none : length w < 1 → word_of digits most w ≡ None
   unfolding word_of is_within
   word_none h = rw (lt-leb 1 (length w) h, and-false)
 
-  pub word_many : digits < length w → word_of digits most w ≡ Other
+  pub word_many : digits < length w → word_of digits most w ≡ None
   unfolding word_of is_within
   word_many h = rw (le-leb 1 (length w) (omega arith), lt-leb (length w) digits h, and-false)
 
-  pub word_zero : 1 < length w → get_or w 0 0 ≡ 48 → word_of digits most w ≡ Other
+  pub word_zero : 1 < length w → get_or w 0 0 ≡ 48 → word_of digits most w ≡ None
   unfolding word_of is_within
   word_zero h e = rw (lt-ltb 1 (length w) h, eq-eqb (get_or w 0 0) 48 e, and-false)
 
@@ -128,7 +122,7 @@ module _ (digits most : ℕ) (w : List ℕ) where
 
 -- the number at a position is what the bytes up to the word's end say; past the line's end there is none
 module _ (digits most : ℕ) (line : List ℕ) (at end : ℕ) (ends : end ≡ word_end line at) where
-  pub number_past : length line < end → within_at digits most line at ≡ Bad·l
+  pub number_past : length line < end → within_at digits most line at ≡ None
   unfolding within_at
   number_past h =
       let past : length line ≤ at = omega (arith, word_length (drop at line), length-drop at line) in
@@ -201,68 +195,55 @@ module _ (digits most : ℕ) (line : List ℕ) (at : ℕ) where
             ∙ word_stops (drop at line) (omega (arith, ends, long, h));
       }
 
-  pub within_found : (n end : ℕ) → within_at digits most line at ≡ At·l n end → Found n end
+  pub within_found : (n end : ℕ) → within_at digits most line at ≡ Some (n, end) → Found n end
   unfolding within_at word_of
   within_found n end = pick (is_within digits most (word_at line at)) refl
     where
-      pick : (e : Bool) → is_within digits most (word_at line at) ≡ e → ending_at (word_end line at) (cond e (Value (value (word_at line at))) Other) ≡ At·l n end
+      pick : (e : Bool) → is_within digits most (word_at line at) ≡ e → ending_at (word_end line at) (cond e (Some (value (word_at line at))) None) ≡ Some (n, end)
           → Found n end
-      pick true e h = found_word n end e (cc) (cc)
+      pick true e h =
+          let both : ◌≡◌ {A = ℕ × ℕ} (n, end) (value (word_at line at), word_end line at) = cc in
+          found_word n end e (ap (λ (p : ℕ × ℕ). p.0) both) (ap (λ (p : ℕ × ℕ). p.1) both)
       pick false e h = let z : ◌≡◌ {A = ℕ} 0 1 = cc in absurd (omega arith)
 
-  pub within_missed : within_at digits most line at ≡ Bad·l → is_within digits most (word_at line at) ≡ false
+  pub within_missed : within_at digits most line at ≡ None → is_within digits most (word_at line at) ≡ false
   unfolding within_at word_of
   within_missed = pick (is_within digits most (word_at line at))
     where
-      pick : (e : Bool) → ending_at (word_end line at) (cond e (Value (value (word_at line at))) Other) ≡ Bad·l → e ≡ false
+      pick : (e : Bool) → ending_at (word_end line at) (cond e (Some (value (word_at line at))) None) ≡ None → e ≡ false
       pick true h = let z : ◌≡◌ {A = ℕ} 0 1 = cc in absurd (omega arith)
       pick false h = refl
 
--- a number of 32 bits is one of 64
-short_at : (x : Long) {n end : ℕ} → short x ≡ At n end → x ≡ At·l n end
-short_at (At·l m e) h = cc
-short_at Bad·l h = let z : ◌≡◌ {A = ℕ} 0 1 = cc in absurd (omega arith)
-
-short_bad : (x : Long) → short x ≡ Bad → x ≡ Bad·l
-short_bad (At·l m e) h = let z : ◌≡◌ {A = ℕ} 0 1 = cc in absurd (omega arith)
-short_bad Bad·l h = refl
-
 module _ (line : List ℕ) (at : ℕ) where
-  pub number_short : {x : Long} → within_at 10 4294967295 line at ≡ x → number_at line at ≡ short x
-  unfolding number_at
-  number_short e = ap short e
+  pub found : (n end : ℕ) → number_at line at ≡ Some (n, end) → Found 10 4294967295 line at n end
+  found n end m = within_found 10 4294967295 line at n end m
 
-  pub found : (n end : ℕ) → number_at line at ≡ At n end → Found 10 4294967295 line at n end
-  unfolding number_at
-  found n end m = within_found 10 4294967295 line at n end (short_at (within_at 10 4294967295 line at) m)
+  pub missed : number_at line at ≡ None → is_number (word_at line at) ≡ false
+  missed m = within_missed 10 4294967295 line at m
 
-  pub missed : number_at line at ≡ Bad → is_number (word_at line at) ≡ false
-  unfolding number_at
-  missed m = within_missed 10 4294967295 line at (short_bad (within_at 10 4294967295 line at) m)
-
-  pub long_found : (n end : ℕ) → long_at line at ≡ At·l n end → Found 20 18446744073709551615 line at n end
+  pub long_found : (n end : ℕ) → long_at line at ≡ Some (n, end) → Found 20 18446744073709551615 line at n end
   long_found n end m = within_found 20 18446744073709551615 line at n end m
 
-  pub long_missed : long_at line at ≡ Bad·l → is_long (word_at line at) ≡ false
+  pub long_missed : long_at line at ≡ None → is_long (word_at line at) ≡ false
   long_missed m = within_missed 20 18446744073709551615 line at m
 
   -- the pieces from a number's end on: none before the first space, then the words after it
-  pub cut_found : (n end : ℕ) → number_at line at ≡ At n end → cut 32 (drop end line) ≡ [] ∷ words_after (drop at line)
+  pub cut_found : (n end : ℕ) → number_at line at ≡ Some (n, end) → cut 32 (drop end line) ≡ [] ∷ words_after (drop at line)
   cut_found n end m =
       rw ((found n end m).ends, ← drop-drop (length (word_at line at)) at line) (cut_after (drop at line))
 
 -- a count with k more
-unfoldable pub plus : ℕ → Numbers → Numbers
-plus k (Count n) = Count (k + n)
-plus k Bad·s = Bad·s
+unfoldable pub plus : ℕ → Option ℕ → Option ℕ
+plus k (Some n) = Some (k + n)
+plus k None = None
 
 -- one number more in front of words
 count_cons : (w : List ℕ) (words : List (List ℕ)) → is_number w ≡ true → count_of ([] ∷ w ∷ words) ≡ plus 1 (count_of ([] ∷ words))
 unfolding plus
 count_cons w words e = rw e (pick (every is_number words))
   where
-    pick : (b : Bool) → cond b (Count (suc (length words))) Bad·s ≡ plus 1 (cond b (Count (length words)) Bad·s)
-    pick true = ap Count (omega arith)
+    pick : (b : Bool) → cond b (Some (suc (length words))) None ≡ plus 1 (cond b (Some (length words)) None)
+    pick true = ap Some (omega arith)
     pick false = refl
 
 leading_cons : (w : List ℕ) (words : List (List ℕ)) (n : ℕ) → is_number w ≡ true → n ≡ value w → leading_of ([] ∷ w ∷ words) ≡ n ∷ leading_of ([] ∷ words)
@@ -272,14 +253,14 @@ leading_cons w words n e v = rw (e, v)
 -- at a position of a line: past its end, at a byte that is no space, at a word that is no number, at a number
 module _ (line : List ℕ) (i : ℕ) where
   -- how many numbers stand from it on, and the first of them
-  abbrev Reads : Numbers → List ℕ → Type 0
+  abbrev Reads : Option ℕ → List ℕ → Type 0
   Reads count values = (count_in (drop i line) ≡ count) × (leading_in (drop i line) ≡ values)
 
-  pub numbers_end : length line ≤ i → Reads (Count 0) []
+  pub numbers_end : length line ≤ i → Reads (Some 0) []
   unfolding count_in leading_in cut leading
   numbers_end h = rw (drop_of_length-le line h) (refl, refl)
 
-  pub numbers_other : i < length line → (get_or line i 0 ≡ 32 → ⊥) → Reads Bad·s []
+  pub numbers_other : i < length line → (get_or line i 0 ≡ 32 → ⊥) → Reads None []
   unfolding count_in leading_in cut
   numbers_other h k = rw (drop-cons line i 0 h, ne_eqb (get_or line i 0) 32 k, cut_word (drop (suc i) line)) (refl, refl)
 
@@ -291,11 +272,11 @@ module _ (line : List ℕ) (i : ℕ) where
         rw (drop-cons line i 0 h, eq-eqb (get_or line i 0) 32 k, ← ap (λ (n : ℕ). drop n line) (add-one i))
         (ap (λ (ps : List (List ℕ)). [] ∷ ps) (cut_word (drop (i + 1) line)))
 
-    pub numbers_bad : number_at line (i + 1) ≡ Bad → Reads Bad·s []
+    pub numbers_bad : number_at line (i + 1) ≡ None → Reads None []
     unfolding count_in leading_in leading
     numbers_bad m = rw (pieces, missed line (i + 1) m) (refl, refl)
 
-    pub numbers_more : (n end : ℕ) → number_at line (i + 1) ≡ At n end → Reads (plus 1 (count_in (drop end line))) (n ∷ leading_in (drop end line))
+    pub numbers_more : (n end : ℕ) → number_at line (i + 1) ≡ Some (n, end) → Reads (plus 1 (count_in (drop end line))) (n ∷ leading_in (drop end line))
     unfolding count_in leading_in
     numbers_more n end m =
         let w : List ℕ = word_at line (i + 1) in

@@ -2,13 +2,6 @@
 ghost use Rattle.std.specs.Prelude.{◌+◌, ◌*◌, ◌≤◌, ◌≡◌, ltb, length, drop};
 ghost use Rattle.numbers.specs.Numbers.{word as Numbers·word, digits_after, word_of};
 
-// What a word is: a number, by its value, or something else.
-#[derive(Drop)]
-pub(crate) enum Word {
-    Value(u64),
-    Other,
-}
-
 // The position of the first space from a position on, or the line's end.
 pub(crate) fn word_end(line: &[u8], at: usize) -> usize
     ensures { result ≡ at + length (Numbers·word (drop at line.now)) }
@@ -24,26 +17,26 @@ pub(crate) fn word_end(line: &[u8], at: usize) -> usize
 }
 
 // The value of a word: 1 to `count` digits, at most `most`, no leading zero but in `0`.
-pub(crate) fn word_value(word: &[u8], count: usize, most: u64) -> Word
+pub(crate) fn word_value(word: &[u8], count: usize, most: u64) -> Option<u64>
     ensures { result ≡ word_of count most word.now }
 {
     if word.len() < 1 {
-        return Word::Other;
+        return None;
     }
     if word.len() > count {
-        return Word::Other;
+        return None;
     }
     if word.len() == 1 {
         return digits(word, most);
     }
     if word[0] == b'0' {
-        return Word::Other;
+        return None;
     }
     digits(word, most)
 }
 
 // The value of any count of digits that is at most `most`.
-fn digits(word: &[u8], most: u64) -> Word
+fn digits(word: &[u8], most: u64) -> Option<u64>
     ensures { result ≡ digits_after most 0 word.now }
 {
     let mut value: u64 = 0;
@@ -51,19 +44,19 @@ fn digits(word: &[u8], most: u64) -> Word
     while i < word.len() {
         let byte = word[i];
         if byte < b'0' {
-            return Word::Other;
+            return None;
         }
         if byte > b'9' {
-            return Word::Other;
+            return None;
         }
         let digit = (byte - b'0') as u64;
         if above(value, digit, most) {
-            return Word::Other;
+            return None;
         }
         value = 10 * value + digit;
         i += 1;
     }
-    Word::Value(value)
+    Some(value)
 }
 
 // Whether a digit after a value makes a number above `most`, which may be too large for 64 bits. Most

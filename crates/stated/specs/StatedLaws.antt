@@ -1,6 +1,6 @@
 -- The laws of the unit that a line states: what the words after its kind say, that all coordinates are held, and what is said of it.
 -- Assumes nothing.
-use Rattle.std.specs.Prelude.{ℕ, suc, ◌+◌, ◌*◌, ◌≤◌, ◌<◌, refl, Bool, cond, ◌&&◌, length, take, drop, get_or, eqb}
+use Rattle.std.specs.Prelude.{Option, Some, None, ℕ, suc, ◌+◌, ◌*◌, ◌≤◌, ◌<◌, refl, Bool, cond, ◌&&◌, length, take, drop, get_or, eqb}
 use Rattle.std.proofs.Common.{arith, sym, ◌∙◌}
 use Rattle.std.proofs.Math.Path.{◌≡◌, ap}
 use Rattle.std.proofs.Math.Bool.{true, false, and-true}
@@ -16,41 +16,39 @@ use Rattle.lines.specs.LinesLaws.{said_form}
 use Rattle.lines.specs.Starts.{starts_with}
 use Rattle.numbers.specs.Numbers.{word, number_at, count_in, leading, leading_in}
 use Rattle.numbers.specs.NumbersLaws.{words_after, cut_word, cut_found, found, missed}
-use Rattle.numbers.specs.declared.Number.TheVariants.{At, Bad}
-use Rattle.numbers.specs.declared.Numbers.TheVariants.{Count, Bad as Bad·s}
-use Rattle.stated.specs.declared.Unit.TheVariants.{Stated, Bad as Bad·u}
+use Rattle.stated.specs.declared.Unit.{Unit}
 use Rattle.stated.specs.Stated.{unit_said, coordinates_of, coordinates_in, unit_after, coordinates_after}
 
 -- ---- a line after a kind and a space
 
 -- what a count says of the words
-all_numbers : (b : Bool) (n count : ℕ) → cond b (Count n) Bad·s ≡ Count count → (b ≡ true) × (count ≡ n)
+all_numbers : (b : Bool) (n count : ℕ) → cond b (Some n) None ≡ Some count → (b ≡ true) × (count ≡ n)
 all_numbers true n count e = (refl, (cc))
 all_numbers false n count e = let z : ◌≡◌ {A = ℕ} 0 1 = cc in absurd (omega arith)
 
-not_all_numbers : (b : Bool) (n : ℕ) → cond b (Count n) Bad·s ≡ Bad·s → b ≡ false
+not_all_numbers : (b : Bool) (n : ℕ) → cond b (Some n) None ≡ None → b ≡ false
 not_all_numbers true n e = let z : ◌≡◌ {A = ℕ} 0 1 = cc in absurd (omega arith)
 not_all_numbers false n e = refl
 
 -- at a word that is no number, at a number before a word that is none, at a number before numbers alone
 module _ (kind : ℕ) (line : List ℕ) (known : is_kind (kind ∷ []) ≡ true) where
-  pub unit_no_number : number_at line 2 ≡ Bad → (unit_after kind line ≡ Bad·u) × (coordinates_after kind line ≡ [])
+  pub unit_no_number : number_at line 2 ≡ None → (unit_after kind line ≡ None) × (coordinates_after kind line ≡ [])
   unfolding unit_after coordinates_after
   unit_no_number m = rw (cut_word (drop 2 line), known, missed line 2 m) (refl, refl)
 
-  module _ (n end : ℕ) (at : number_at line 2 ≡ At n end) where
+  module _ (n end : ℕ) (at : number_at line 2 ≡ Some (n, end)) where
     pub unit_coordinates : coordinates_after kind line ≡ leading_in (drop end line)
     unfolding coordinates_after leading_in
     unit_coordinates = rw (cut_found line 2 n end at, cut_word (drop 2 line), known, (found line 2 n end at).number)
 
-    pub unit_no_coordinate : count_in (drop end line) ≡ Bad·s → unit_after kind line ≡ Bad·u
+    pub unit_no_coordinate : count_in (drop end line) ≡ None → unit_after kind line ≡ None
     unfolding unit_after count_in
     unit_no_coordinate m =
         let words : List (List ℕ) = words_after (drop 2 line) in
         let none = not_all_numbers (every is_number words) (length words) (rw (cut_found line 2 n end at) at m) in
         rw (cut_word (drop 2 line), known, (found line 2 n end at).number, none)
 
-    pub unit_stated : (count : ℕ) → count_in (drop end line) ≡ Count count → unit_after kind line ≡ Stated kind n count
+    pub unit_stated : (count : ℕ) → count_in (drop end line) ≡ Some count → unit_after kind line ≡ Some (its kind n count)
     unfolding unit_after count_in
     unit_stated count m =
         let words : List (List ℕ) = words_after (drop 2 line) in
@@ -80,7 +78,7 @@ module _ (kind : ℕ) (apart : eqb kind 32 ≡ false) where
 
 -- words that state no unit
 abbrev NoUnit : List (List ℕ) → Type 0
-NoUnit words = (unit_said (form_of words) ≡ Bad·u) × (coordinates_of words ≡ [])
+NoUnit words = (unit_said (form_of words) ≡ None) × (coordinates_of words ≡ [])
 
 -- words whose first is no kind
 no_kind : (kind : List ℕ) (words : List (List ℕ)) → is_kind kind ≡ false → NoUnit (kind ∷ words)
@@ -108,7 +106,7 @@ no_unit (x ∷ y ∷ t) b f = pick (eqb x 32) (eqb y 32) refl refl
     pick false false p q = rw (p, q, cut_word t) (no_kind (x ∷ y ∷ word t) (words_after t) refl)
 
 pub unit_none : (line : List ℕ) → starts_with line (66 ∷ 32 ∷ []) ≡ false → starts_with line (70 ∷ 32 ∷ []) ≡ false
-    → (unit_said (form line) ≡ Bad·u) × (coordinates_in line ≡ [])
+    → (unit_said (form line) ≡ None) × (coordinates_in line ≡ [])
 unfolding form coordinates_in
 unit_none line b f = no_unit line b f
 
@@ -153,7 +151,7 @@ record States (words : List (List ℕ)) (kind number count : ℕ) : Type 0 where
   pub counts : length (coordinates_of words) ≡ count
   pub few : 2 * count < spread words
 
-states : (words : List (List ℕ)) (kind number count : ℕ) → unit_said (form_of words) ≡ Stated kind number count → States words kind number count
+states : (words : List (List ℕ)) (kind number count : ℕ) → unit_said (form_of words) ≡ Some (its kind number count) → States words kind number count
 unfolding spread
 states [] kind number count e = let z : ◌≡◌ {A = ℕ} 0 1 = cc in absurd (omega arith)
 states (k ∷ []) kind number count e = let z : ◌≡◌ {A = ℕ} 0 1 = cc in absurd (omega arith)
@@ -163,7 +161,7 @@ states (k ∷ n ∷ words) kind number count e = pick (is_kind k) (is_number n) 
     its = unit (get_or k 0 0) (value n) (map value words)
 
     pick : (a b c : Bool) → is_kind k ≡ a → is_number n ≡ b → every is_number words ≡ c
-        → unit_said (cond (a && (b && c)) its not_of_this_form) ≡ Stated kind number count → States (k ∷ n ∷ words) kind number count
+        → unit_said (cond (a && (b && c)) its not_of_this_form) ≡ Some (its kind number count) → States (k ∷ n ∷ words) kind number count
     pick true true true p q r e =
         let all : leading words ≡ map value words = leading_all words r in
         let same : length (map value words) ≡ count = cc in
@@ -176,7 +174,7 @@ states (k ∷ n ∷ words) kind number count e = pick (is_kind k) (is_number n) 
     pick true false c p q r e = let z : ◌≡◌ {A = ℕ} 0 1 = cc in absurd (omega arith)
     pick false b c p q r e = let z : ◌≡◌ {A = ℕ} 0 1 = cc in absurd (omega arith)
 
-module _ (line : List ℕ) {kind number count : ℕ} (e : unit_said (form line) ≡ Stated kind number count) where
+module _ (line : List ℕ) {kind number count : ℕ} (e : unit_said (form line) ≡ Some (its kind number count)) where
   -- the unit that a line states, with its coordinates; each takes a space and a digit of the line
   pub stated : (form line ≡ unit kind number (coordinates_in line)) × (length (coordinates_in line) ≡ count) × (2 * count ≤ length line)
   unfolding form coordinates_in
@@ -198,12 +196,12 @@ module _ (line : List ℕ) {kind number count : ℕ} (e : unit_said (form line) 
 -- ---- what is said of a line that is not too long: one not of this form, one that states a unit
 
 module _ (coding : Coding) (line : List ℕ) (h : length line ≤ longest) where
-  pub said_bad : unit_said (form line) ≡ Bad·u → line_said coding line ≡ refused 9 0
+  pub said_bad : unit_said (form line) ≡ None → line_said coding line ≡ refused 9 0
   said_bad e = said_form coding line h ∙ bad (form line) e
     where
-      bad : (f : Form) → unit_said f ≡ Bad·u → form_said coding f ≡ refused 9 0
+      bad : (f : Form) → unit_said f ≡ None → form_said coding f ≡ refused 9 0
       bad (unit kind number coordinates) e = let z : ◌≡◌ {A = ℕ} 0 1 = cc in absurd (omega arith)
       bad not_of_this_form e = refl
 
-  pub said_unit : {kind number count : ℕ} → unit_said (form line) ≡ Stated kind number count → line_said coding line ≡ coding kind number (coordinates_in line)
+  pub said_unit : {kind number count : ℕ} → unit_said (form line) ≡ Some (its kind number count) → line_said coding line ≡ coding kind number (coordinates_in line)
   said_unit e = said_form coding line h ∙ ap (form_said coding) (stated line e).0

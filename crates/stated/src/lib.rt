@@ -8,19 +8,19 @@ ghost use Rattle.lines.specs.Lines.{is_kind, form};
 ghost use Rattle.stated.specs.Stated.{unit_said, coordinates_in, unit_after, coordinates_after};
 
 use lines::starts;
-use numbers::{Number, Numbers, number_at, numbers_at};
+use numbers::{number_at, numbers_at};
 
-// A unit: the letter of its kind, its number, and how many coordinates it has; or a line not of this
-// form.
-#[derive(Drop)]
-pub enum Unit {
-    Stated(u8, u32, usize),
-    Bad,
+// A unit: the letter of its kind, its number, and how many coordinates it has.
+#[derive(Clone, Copy)]
+pub struct Unit {
+    pub letter: u8,
+    pub number: u32,
+    pub count: usize,
 }
 
-// The unit that a line states. The first of its coordinates go into the room, as many as it takes,
-// and all of them are counted.
-pub fn unit_of(line: &[u8], room: &mut [u32]) -> Unit
+// The unit that a line states; or none, where the line is not of this form. The first of its coordinates
+// go into the room, as many as it takes, and all of them are counted.
+pub fn unit_of(line: &[u8], room: &mut [u32]) -> Option<Unit>
     ensures value { result ≡ unit_said (form line.now) }
     ensures room_after { room.new ≡ put_at room.old 0 (coordinates_in line.now) }
 {
@@ -30,22 +30,20 @@ pub fn unit_of(line: &[u8], room: &mut [u32]) -> Unit
     if starts(line, b"F ") {
         return unit_after(line, b'F', room);
     }
-    Unit::Bad
+    None
 }
 
 // The unit of a line that starts with a kind and a space.
-fn unit_after(line: &[u8], kind: u8, room: &mut [u32]) -> Unit
+fn unit_after(line: &[u8], kind: u8, room: &mut [u32]) -> Option<Unit>
     requires { is_kind (kind ∷ []) ≡ true }
     ensures value { result ≡ unit_after kind line.now }
     ensures room_after { room.new ≡ put_at room.old 0 (coordinates_after kind line.now) }
 {
-    let number = number_at(line, 2);
-    let Number::At(value, end) = number else {
-        return Unit::Bad;
-    };
-    let coordinates = numbers_at(line, end, room);
-    let Numbers::Count(count) = coordinates else {
-        return Unit::Bad;
-    };
-    Unit::Stated(kind, value, count)
+    let (number, end) = number_at(line, 2)?;
+    let count = numbers_at(line, end, room)?;
+    Some(Unit {
+        letter: kind,
+        number,
+        count,
+    })
 }

@@ -14,24 +14,21 @@ returns-then-line-i-ne32 c =
     let whole = counting_other c.loop-i.invariant (search rules) c.if-line-i-ne32.true in
     record { value = whole.0; room_after = whole.1 }
 
-pub returns-in_default : goal.returns-in_default
-returns-in_default c =
-    let space = c.if-line-i-ne32.false in
-    let bad = sym c.number_at-number.ensures ∙ c.in_default.is in
-    let whole = counting_bad c.loop-i.invariant (search rules) space bad in
-    record { value = whole.0; room_after = whole.1 }
+pub returns-in_err-value : goal.returns-in_err-value
+returns-in_err-value c =
+    let bad = sym c.number_at.ensures ∙ c.in_err-value.was in
+    let whole = counting_bad c.loop-i.invariant (search rules) c.if-line-i-ne32.false bad in
+    record { value = c.from_residual.ensures ∙ whole.0; room_after = whole.1 }
 
 pub loop-i-smaller : goal.loop-i-smaller
 loop-i-smaller c =
-    let at = sym c.number_at-number.ensures ∙ c.in-At.is in
+    let at = sym c.number_at.ensures ∙ c.in_ok-value.was in
     omega (arith, counting_further c.loop-i.invariant at)
 
 pub loop-i-preserved : goal.loop-i-preserved
 loop-i-preserved c =
-    let at = sym c.number_at-number.ensures ∙ c.in-At.is in
-    let space = c.if-line-i-ne32.false in
-    let so = c.loop-i.invariant in
-    rw c.store.ensures (counting_more so (search rules) space at)
+    let at = sym c.number_at.ensures ∙ c.in_ok-value.was in
+    rw c.store.ensures (counting_more c.loop-i.invariant (search rules) c.if-line-i-ne32.false at)
 
 pub returns : goal.returns
 returns c =

@@ -11,16 +11,17 @@ returns-then-line-end c =
     let ended = c.word_end-end in
     sym (number_past asked.digits asked.most asked.line.now asked.at ended.result ended.ensures c.if-line-end.true)
 
-pub returns-in-Value : goal.returns-in-Value
-returns-in-Value c =
+pub returns-in_err-value : goal.returns-in_err-value
+returns-in_err-value c =
     let asked = c.args in
     let ended = c.word_end-end in
-    let is = sym c.word_value-word.ensures ∙ c.in-Value.is in
-    sym (number_within asked.digits asked.most asked.line.now asked.at ended.result ended.ensures ∙ ap (ending_at ended.result) is)
+    let is = sym c.word_value.ensures ∙ c.in_err-value.was in
+    c.from_residual.ensures
+    ∙ sym (number_within asked.digits asked.most asked.line.now asked.at ended.result ended.ensures ∙ ap (ending_at ended.result) is)
 
-pub returns-in-Other : goal.returns-in-Other
-returns-in-Other c =
+pub returns : goal.returns
+returns c =
     let asked = c.args in
     let ended = c.word_end-end in
-    let is = sym c.word_value-word.ensures ∙ c.in-Other.is in
+    let is = sym c.word_value.ensures ∙ c.in_ok-value.was in
     sym (number_within asked.digits asked.most asked.line.now asked.at ended.result ended.ensures ∙ ap (ending_at ended.result) is)
