@@ -1,6 +1,6 @@
 -- The laws of coding's checks (document 01, "Replies"; document 02, request 1): what each table leaves where it refuses nothing, and what
 -- the tables before a cell is looked for leave together. Assumes nothing.
-use Rattle.std.specs.Prelude.{ℕ, suc, ◌/◌, ◌%◌, ◌≤◌, ◌≡◌, refl, Bool, true, false, cond, List, [], ◌∷◌, ◌++◌, eqb, ltb, length}
+use Rattle.std.specs.Prelude.{ℕ, suc, ◌/◌, ◌%◌, ◌≤◌, ◌≡◌, refl, Bool, true, false, cond, List, [], ◌∷◌, ◌++◌, eqb, ltb, length, Option, Some, None}
 use Rattle.std.proofs.Common.{arith, true≢false, ltb-false, le-ltb, eqb-true}
 use Rattle.std.proofs.lemmas.Bool.{eqb-false, not-false}
 use Rattle.replies.specs.Replies.{Check, run}
@@ -17,8 +17,6 @@ use Rattle.corners.specs.Corners.{corners_of}
 use Rattle.crossed.specs.Crossed.{crossed}
 use Rattle.unit.specs.declared.Kind.{Kind}
 use Rattle.unit.specs.declared.Kind.TheVariants.{Building, Other}
-use Rattle.chosen.specs.declared.Choice.{Choice}
-use Rattle.chosen.specs.declared.Choice.TheVariants.{At, Nowhere}
 use Rattle.unit.specs.Extents.{extremes_of, lat_extent, lon_extent, span_of}
 use Rattle.unit.specs.Unit.{chosen_cell, above_range, above_degree}
 use Rattle.unit.specs.Unit.{room_check, shape_checks, ground_checks, number_check, cell_check, corner_checks, code_checks}
@@ -117,16 +115,16 @@ entered room numbers kind number e =
     }
 
 -- Check 7 leaves a cell
-pub record Celled (choice : Choice) : Type 0 where
+pub record Celled (choice : Option Cell) : Type 0 where
   pub cell : Cell
-  pub chosen : choice ≡ At cell
+  pub chosen : choice ≡ Some cell
 
-pub celled : (choice : Choice) → (run (cell_check choice)).number ≡ 0 → Celled choice
+pub celled : (choice : Option Cell) → (run (cell_check choice)).number ≡ 0 → Celled choice
 celled choice e = at choice (passed (cell_check choice) tt e)
   where
-    at : (choice : Choice) → Passed (cell_check choice) → Celled choice
-    at (At c) _ = record { cell = c; chosen = refl }
-    at Nowhere (none, _) = absurd (true≢false none)
+    at : (choice : Option Cell) → Passed (cell_check choice) → Celled choice
+    at (Some c) _ = record { cell = c; chosen = refl }
+    at None (none, _) = absurd (true≢false none)
 
 module _ (room : ℕ) (numbers : List ℕ) (kind : Kind) (number : ℕ) where
   -- Coding's checks are those before a cell is looked for, and then that of the chosen cell

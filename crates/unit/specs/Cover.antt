@@ -1,7 +1,7 @@
 -- The rectangle read back covers the unit (document 01, "Four spans" and "Reading back"): the fields of a cell that is inside are good,
 -- each side lies at or beyond the unit's own extreme, by less than the size of the scale that the code has (document 02, request 2), and
 -- so it is with the bytes that coding leaves. Assumes nothing.
-use Rattle.std.specs.Prelude.{ℕ, ◌+◌, ◌-◌, ◌*◌, ◌/◌, ◌≤◌, ◌<◌, min, ◌≡◌, refl, true, length, get_or, take}
+use Rattle.std.specs.Prelude.{ℕ, ◌+◌, ◌-◌, ◌*◌, ◌/◌, ◌≤◌, ◌<◌, min, ◌≡◌, refl, true, length, get_or, take, Option, Some}
 use Rattle.std.proofs.Common.{div-mul-le_self, arith, ap, subst, ◌∙◌}
 use Rattle.std.proofs.Math.Nat.{lt-div-mul-add}
 use Rattle.std.proofs.Math.Path.{ap₂, sym}
@@ -25,8 +25,6 @@ use Rattle.boundary.specs.Boundary.{edges_of, inside}
 use Rattle.ground.specs.Rectangles.{Holds}
 use Rattle.facts.specs.Lists.{each_at}
 use Rattle.unit.specs.declared.Kind.{Kind}
-use Rattle.chosen.specs.declared.Choice.{Choice}
-use Rattle.chosen.specs.declared.Choice.TheVariants.{At}
 use Rattle.unit.specs.Extents.{extremes_of}
 use Rattle.unit.specs.Unit.{span_cells, fields_at, level_of, fields_of, code_at, chosen_cell, coding}
 use Rattle.unit.specs.ExtentsLaws.{extremes_hold, over_range}
@@ -146,7 +144,7 @@ module _ {corners : List Point} {number : ℕ} {c : Cell} (p : Passing corners n
 -- A unit coded: its cell, with which no check refuses, and coding is writing from its fields
 pub record UnitCoded (room numbers : List ℕ) (kind : Kind) (number : ℕ) : Type 0 where
   pub cell : Cell
-  pub chosen : chosen_cell (corners_of numbers) ≡ At cell
+  pub chosen : chosen_cell (corners_of numbers) ≡ Some cell
   pub passing : Passing (corners_of numbers) number cell
   pub written : coding room numbers kind number ≡ writing room (unit_fields (corners_of numbers) number cell)
 
@@ -157,13 +155,13 @@ pub record ReadBack (corners : List Point) (told : Told) : Type 0 where
   pub held : (i : ℕ) → i < length corners → (d : Point) → Holds told.rectangle (get_or corners i d)
 
 -- The chosen cell of corners that checks 4 and 5 accept is a cell that is inside
-pub chosen_inside : {corners : List Point} → Grounded corners → {c : Cell} → chosen_cell corners ≡ At c → IsCell c × (inside (edges_of corners) c ≡ true)
+pub chosen_inside : {corners : List Point} → Grounded corners → {c : Cell} → chosen_cell corners ≡ Some c → IsCell c × (inside (edges_of corners) c ≡ true)
 chosen_inside {corners} g {c} chosen =
     let is = choose_chosen (over_range corners g.range) chosen in
     (is.cell, true_of (inside (edges_of corners) c) is.within)
 
 -- and with checks 1 to 6 it passes
-pub passing : {room : ℕ} {numbers : List ℕ} {number : ℕ} → Entered room numbers number → {c : Cell} → chosen_cell (corners_of numbers) ≡ At c
+pub passing : {room : ℕ} {numbers : List ℕ} {number : ℕ} → Entered room numbers number → {c : Cell} → chosen_cell (corners_of numbers) ≡ Some c
     → Passing (corners_of numbers) number c
 passing h chosen =
     let is = chosen_inside h.ground chosen in
@@ -185,7 +183,7 @@ module _ (room numbers : List ℕ) (kind : Kind) (number : ℕ) where
         chosen = last.chosen;
         passing = p;
         written =
-            ap₂ (λ (said : Said) (choice : Choice). outcome said (code_at r number choice) room) e last.chosen
+            ap₂ (λ (said : Said) (choice : Option Cell). outcome said (code_at r number choice) room) e last.chosen
             ∙ sym (good_writing room (unit_fields corners number last.cell) h.long (fields_good p));
       }
 

@@ -1,18 +1,15 @@
 -- Coding's frame (document 01, "Replies"): what both roads share around their search. The answers of coding, the checks before a cell is
 -- looked for, and the end of coding around a cell that is handed in. Assumes nothing.
-use Rattle.std.specs.Prelude.{ℕ, ◌/◌, ◌≤◌, cond, List, ◌++◌, ◌⊎◌, eqb, length}
+use Rattle.std.specs.Prelude.{ℕ, ◌/◌, ◌≤◌, cond, List, ◌++◌, ◌⊎◌, eqb, length, Option, Some, None, Result, Ok, Err}
 use Rattle.std.proofs.Common.{inl, inr}
 use Rattle.replies.specs.Replies.{Said, refused, accepted, Check, run, Outcome}
 use Rattle.ground.specs.declared.Rectangle.{Rectangle}
+use Rattle.ground.specs.declared.Cell.{Cell}
 use Rattle.ground.specs.Cells.{is_cell}
 use Rattle.code.specs.Code.{writing}
 use Rattle.unit.specs.declared.Kind.{Kind}
-use Rattle.chosen.specs.declared.Choice.{Choice}
-use Rattle.chosen.specs.declared.Choice.TheVariants.{At, Nowhere}
-use Rattle.unit.specs.declared.Coded.{Coded}
-use Rattle.unit.specs.declared.Coded.TheVariants as coded
-use Rattle.unit.specs.declared.Admission.{Admission}
-use Rattle.unit.specs.declared.Admission.TheVariants as admission
+use Rattle.unit.specs.declared.Refusal.{Refusal}
+use Rattle.unit.specs.declared.Refusal.TheVariants as refusal
 use Rattle.corners.specs.Corners.{corners_of}
 use Rattle.boundary.specs.Listed.{boundary_of}
 use Rattle.chosen.specs.Chosen.{Over}
@@ -20,19 +17,19 @@ use Rattle.unit.specs.Extents.{extremes_of}
 use Rattle.unit.specs.Unit.{fields_of, room_check, shape_checks, ground_checks, number_check}
 
 -- The number and the place of each answer of coding
-abbrev pub says : Coded → Said
-says coded.Accepted = accepted
-says coded.Output = refused 1 0
-says coded.Pairs = refused 2 0
-says coded.Corners = refused 3 0
-says (coded.Range corner) = refused 4 corner
-says coded.Extent = refused 5 0
-says (coded.Crossed corner) = refused 31 corner
-says coded.Number = refused 6 0
-says coded.NoCell = refused 7 0
+abbrev pub says : Result (Unit {0}) Refusal → Said
+says (Ok _) = accepted
+says (Err refusal.Output) = refused 1 0
+says (Err refusal.Pairs) = refused 2 0
+says (Err refusal.Corners) = refused 3 0
+says (Err (refusal.Range corner)) = refused 4 corner
+says (Err refusal.Extent) = refused 5 0
+says (Err (refusal.Crossed corner)) = refused 31 corner
+says (Err refusal.Number) = refused 6 0
+says (Err refusal.NoCell) = refused 7 0
 
 -- What coding leaves, from its answer and the room
-abbrev pub leaves : Coded → List ℕ → Outcome
+abbrev pub leaves : Result (Unit {0}) Refusal → List ℕ → Outcome
 leaves answer room = record { said = says answer; room = room }
 
 -- The first checks, those before a cell is looked for: 1 to 6, with 31 between 5 and 6
@@ -41,9 +38,9 @@ first_checks room numbers kind number =
     room_check room ++ shape_checks numbers ++ ground_checks (corners_of numbers) ++ number_check kind number
 
 -- What the first checks leave to a road, in the terms of the definitions
-abbrev pub tells : Admission → Said ⊎ Rectangle
-tells (admission.Refused answer) = inl (says answer)
-tells (admission.Over r) = inr r
+abbrev pub tells : Result Rectangle Refusal → Said ⊎ Rectangle
+tells (Err e) = inl (says (Err e))
+tells (Ok r) = inr r
 
 -- The refusal of the first checks, or the unit's own extremes where they refuse nothing
 unfoldable pub admitting : ℕ → List ℕ → Kind → ℕ → Said ⊎ Rectangle
@@ -58,9 +55,9 @@ pub record Searched (numbers : List ℕ) (r : Rectangle) : Type 0 where
 
 -- What writing from a cell's fields comes to: acceptance, or 7. A cell that is inside has fields that can be written
 abbrev pub ending : Outcome → Outcome
-ending o = record { said = cond (eqb o.said.number 0) accepted (says coded.NoCell); room = o.room }
+ending o = record { said = cond (eqb o.said.number 0) accepted (says (Err refusal.NoCell)); room = o.room }
 
 -- The end of coding around what a search hands in: writing from a cell's fields, and 7 where it is no cell or they cannot be written
-unfoldable pub finishing : List ℕ → Rectangle → ℕ → Choice → Outcome
-finishing room r number Nowhere = leaves coded.NoCell room
-finishing room r number (At c) = cond (is_cell c) (ending (writing room (fields_of r number c))) (leaves coded.NoCell room)
+unfoldable pub finishing : List ℕ → Rectangle → ℕ → Option Cell → Outcome
+finishing room r number None = leaves (Err refusal.NoCell) room
+finishing room r number (Some c) = cond (is_cell c) (ending (writing room (fields_of r number c))) (leaves (Err refusal.NoCell) room)

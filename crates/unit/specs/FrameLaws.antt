@@ -1,6 +1,6 @@
 -- The laws of the frame: its end around a cell and around none, and that it makes coding whole. Where one of the first checks refuses,
 -- coding says what it says and leaves the room; else coding is its end around the chosen cell. Assumes nothing.
-use Rattle.std.specs.Prelude.{ℕ, ◌-◌, ◌*◌, ◌≤◌, ◌≡◌, Bool, cond, List, ◌++◌, ◌⊎◌, length, take, replicate, drop}
+use Rattle.std.specs.Prelude.{ℕ, ◌-◌, ◌*◌, ◌≤◌, ◌≡◌, Bool, cond, List, ◌++◌, ◌⊎◌, length, take, replicate, drop, Option, Some, None, Result, Ok, Err}
 use Rattle.std.proofs.Math.Nat.{sub-zero}
 use Rattle.std.proofs.Common.{arith, ap₂, ◌∙◌, inl, inr, length-drop, length-append}
 use Rattle.std.proofs.Math.Path.{refl, ap, sym, subst}
@@ -14,8 +14,6 @@ use Rattle.ground.specs.declared.Cell.{Cell}
 use Rattle.ground.specs.Cells.{is_cell}
 use Rattle.ground.proofs.CellsLaws.{is_cell_lem}
 use Rattle.code.specs.declared.Fields.{Fields}
-use Rattle.code.specs.declared.Written.{Written}
-use Rattle.code.specs.Code as code
 use Rattle.code.specs.Code.{writing, code_of}
 use Rattle.code.specs.WritingLaws.{code_twenty, good_writing}
 use Rattle.corners.specs.Corners.{corners_of}
@@ -23,12 +21,8 @@ use Rattle.boundary.specs.Listed.{edges_in, boundary_of, listed_count, listed_ed
 use Rattle.boundary.specs.ListedLaws.{have_room_lem, listed_fits, listed_boundary}
 use Rattle.chosen.specs.Chosen.{choose, Over}
 use Rattle.unit.specs.declared.Kind.{Kind}
-use Rattle.unit.specs.declared.Coded.{Coded}
-use Rattle.unit.specs.declared.Coded.TheVariants as coded
-use Rattle.unit.specs.declared.Admission.{Admission}
-use Rattle.unit.specs.declared.Admission.TheVariants as admission
-use Rattle.chosen.specs.declared.Choice.{Choice}
-use Rattle.chosen.specs.declared.Choice.TheVariants.{At, Nowhere}
+use Rattle.unit.specs.declared.Refusal.{Refusal}
+use Rattle.unit.specs.declared.Refusal.TheVariants as refusal
 use Rattle.unit.specs.Extents.{extremes_of}
 use Rattle.unit.specs.ExtentsLaws.{over_range}
 use Rattle.unit.specs.Unit.{fields_of, cell_check, code_at, chosen_cell, code_checks, coding}
@@ -36,27 +30,37 @@ use Rattle.unit.specs.CheckLaws.{Entered, entered, first_refuses, first_accepts}
 use Rattle.unit.specs.Cover.{fields_good, chosen_inside, passing}
 use Rattle.unit.specs.Frame.{says, leaves, ending, first_checks, tells, admitting, finishing, Searched}
 
--- Writing that accepts ends in acceptance, and else in 7; the room is as writing left it
-pub ends : (o : Outcome) (answer : Written) (room : List ℕ) → code.leaves answer room ≡ o → (code.says answer).number ≡ 0
-    → leaves coded.Accepted room ≡ ending o
-ends o answer room e k = rw (sym e, eq-eqb (code.says answer).number 0 k)
+-- No refusal has number 0
+pub refuses : (e : Refusal) → (says (Err e)).number ≡ 0 → ⊥
+refuses refusal.Output k = omega arith
+refuses refusal.Pairs k = omega arith
+refuses refusal.Corners k = omega arith
+refuses (refusal.Range corner) k = omega arith
+refuses refusal.Extent k = omega arith
+refuses (refusal.Crossed corner) k = omega arith
+refuses refusal.Number k = omega arith
+refuses refusal.NoCell k = omega arith
 
-pub ends_not : (o : Outcome) (answer : Written) (room : List ℕ) → code.leaves answer room ≡ o → ((code.says answer).number ≡ 0 → ⊥)
-    → leaves coded.NoCell room ≡ ending o
-ends_not o answer room e k = rw (sym e, ne_eqb (code.says answer).number 0 k)
+-- Writing that says 0 ends in acceptance, and else in 7; the room is as writing left it
+module _ (o : Outcome) {said : Said} {room : List ℕ} (written : record { said = said; room = room } ≡ o) where
+  pub ends : said.number ≡ 0 → leaves (Ok tt) room ≡ ending o
+  ends k = rw (sym written, eq-eqb said.number 0 k)
+
+  pub ends_not : (said.number ≡ 0 → ⊥) → leaves (Err refusal.NoCell) room ≡ ending o
+  ends_not k = rw (sym written, ne_eqb said.number 0 k)
 
 -- The end around a cell is writing from its fields, and around what is no cell 7
 pub finish_cell : (room : List ℕ) (r : Rectangle) (number : ℕ) (c : Cell) → is_cell c ≡ true
-    → ending (writing room (fields_of r number c)) ≡ finishing room r number (At c)
+    → ending (writing room (fields_of r number c)) ≡ finishing room r number (Some c)
 unfolding finishing
 finish_cell room r number c e = rw e
 
 pub finish_none : (room : List ℕ) (r : Rectangle) (number : ℕ) (c : Cell) → is_cell c ≡ false
-    → leaves coded.NoCell room ≡ finishing room r number (At c)
+    → leaves (Err refusal.NoCell) room ≡ finishing room r number (Some c)
 unfolding finishing
 finish_none room r number c e = rw e
 
-pub finish_nowhere : (room : List ℕ) (r : Rectangle) (number : ℕ) → leaves coded.NoCell room ≡ finishing room r number Nowhere
+pub finish_nowhere : (room : List ℕ) (r : Rectangle) (number : ℕ) → leaves (Err refusal.NoCell) room ≡ finishing room r number None
 unfolding finishing
 finish_nowhere room r number = refl
 
@@ -67,10 +71,10 @@ unfolding coding
 coding_fits room numbers kind number h =
     at (eqb (run (code_checks (length room) numbers kind number)).number 0) (chosen_cell (corners_of numbers))
   where
-    at : (b : Bool) (c : Choice) → length (cond b (code_at (extremes_of (corners_of numbers)) number c ++ drop 20 room) room) ≤ length room
+    at : (b : Bool) (c : Option Cell) → length (cond b (code_at (extremes_of (corners_of numbers)) number c ++ drop 20 room) room) ≤ length room
     at false c = omega arith
-    at true Nowhere = omega (arith, length-drop 20 room)
-    at true (At c) =
+    at true None = omega (arith, length-drop 20 room)
+    at true (Some c) =
         let f : Fields = fields_of (extremes_of (corners_of numbers)) number c in
         omega (arith, length-append (code_of f) (drop 20 room), length-drop 20 room, code_twenty f)
 
@@ -122,15 +126,15 @@ module _ (room : ℕ) (numbers : List ℕ) (kind : Kind) (number : ℕ) where
       at true k = (refl, eqb-true said_first.number 0 k)
       at false k = (refl, eqb-false said_first.number 0 k)
 
-  module _ {a : Admission} (told : tells a ≡ admitting room numbers kind number) where
-    admitted_refused : {answer : Coded} → a ≡ admission.Refused answer → Admitted (inl (says answer))
-    admitted_refused {answer} e = admitted (inl (says answer)) (ap tells (sym e) ∙ told)
+  module _ {a : Result Rectangle Refusal} (told : tells a ≡ admitting room numbers kind number) where
+    admitted_refused : {why : Refusal} → a ≡ Err why → Admitted (inl (says (Err why)))
+    admitted_refused {why} e = admitted (inl (says (Err why))) (ap tells (sym e) ∙ told)
 
-    admitted_over : {r : Rectangle} → a ≡ admission.Over r → Admitted (inr r)
+    admitted_over : {r : Rectangle} → a ≡ Ok r → Admitted (inr r)
     admitted_over {r} e = admitted (inr r) (ap tells (sym e) ∙ told)
 
     -- A road that they accept has what its search takes for granted
-    pub road_searches : {r : Rectangle} → a ≡ admission.Over r → Searched numbers r
+    pub road_searches : {r : Rectangle} → a ≡ Ok r → Searched numbers r
     road_searches e =
         let h = admitted_over e in
         let entry = entered room numbers kind number h.1 in
@@ -152,30 +156,30 @@ module _ (room numbers : List ℕ) (kind : Kind) (number : ℕ) where
       → coding room numbers kind number ≡ finishing room (extremes_of (corners_of numbers)) number (chosen_cell (corners_of numbers))
   unfolding coding
   framed e =
-      let choice : Choice = chosen_cell (corners_of numbers) in
+      let choice : Option Cell = chosen_cell (corners_of numbers) in
       ap (λ (s : Said). outcome s (code_at (extremes_of (corners_of numbers)) number choice) room) (first_accepts (length room) numbers kind number e)
       ∙ at choice refl (entered (length room) numbers kind number e)
     where
-      at : (choice : Choice) → chosen_cell (corners_of numbers) ≡ choice → Entered (length room) numbers number
+      at : (choice : Option Cell) → chosen_cell (corners_of numbers) ≡ choice → Entered (length room) numbers number
           → outcome (run (cell_check choice)) (code_at (extremes_of (corners_of numbers)) number choice) room
           ≡ finishing room (extremes_of (corners_of numbers)) number choice
-      at (At c) chosen h =
+      at (Some c) chosen h =
           let r : Rectangle = extremes_of (corners_of numbers) in
           ap ending (sym (good_writing room (fields_of r number c) h.long (fields_good (passing h chosen))))
           ∙ finish_cell room r number c (is_cell_lem c (chosen_inside h.ground chosen).0)
-      at Nowhere chosen h = finish_nowhere room (extremes_of (corners_of numbers)) number
+      at None chosen h = finish_nowhere room (extremes_of (corners_of numbers)) number
 
-  module _ {a : Admission} (told : tells a ≡ admitting (length room) numbers kind number) where
+  module _ {a : Result Rectangle Refusal} (told : tells a ≡ admitting (length room) numbers kind number) where
     -- So a road that they refuse says what they say and leaves the room
-    pub road_refused : {answer : Coded} → a ≡ admission.Refused answer → leaves answer room ≡ coding room numbers kind number
+    pub road_refused : {why : Refusal} → a ≡ Err why → leaves (Err why) room ≡ coding room numbers kind number
     road_refused e =
         let h = admitted_refused (length room) numbers kind number told e in
         ap (λ (s : Said). record { said = s; room = room }) h.0 ∙ sym (framed_refused h.1)
 
     -- and one that they accept codes by ending around the chosen cell
-    pub road_ends : {r : Rectangle} → a ≡ admission.Over r → {o : Outcome} {choice : Choice} → choice ≡ choose r (boundary_of numbers)
+    pub road_ends : {r : Rectangle} → a ≡ Ok r → {o : Outcome} {choice : Option Cell} → choice ≡ choose r (boundary_of numbers)
         → o ≡ finishing room r number choice → o ≡ coding room numbers kind number
     road_ends e chosen ended =
         let h = admitted_over (length room) numbers kind number told e in
         let found = chosen ∙ ap (λ (x : Rectangle). choose x (boundary_of numbers)) h.0 in
-        ended ∙ ap₂ (λ (x : Rectangle) (y : Choice). finishing room x number y) h.0 found ∙ sym (framed h.1)
+        ended ∙ ap₂ (λ (x : Rectangle) (y : Option Cell). finishing room x number y) h.0 found ∙ sym (framed h.1)

@@ -1,6 +1,6 @@
 -- Coding keeps to the ground (the mission's demand 3): extents, chosen cell, every refusal number from 4 on and the code are the same for
 -- all lists of corners of one ground. Assumes nothing.
-use Rattle.std.specs.Prelude.{ℕ, suc, ◌%◌, ◌/◌, min, max, ◌≡◌, refl, Bool, true, false, cond, ◌||◌, T, eqb, ltb, length, drop}
+use Rattle.std.specs.Prelude.{ℕ, suc, ◌%◌, ◌/◌, min, max, ◌≡◌, refl, Bool, true, false, cond, ◌||◌, T, eqb, ltb, length, drop, Option}
 use Rattle.std.proofs.Common.{arith, ap, ap₂, ◌∙◌, sym, subst, lt-ltb}
 use Rattle.std.proofs.Math.Bool.{or_assoc, or-false, or-true}
 use mathlib.Core.List.{List, [], ◌∷◌, ◌++◌, map, reverse, reverse-cons}
@@ -19,7 +19,6 @@ use Rattle.boundary.specs.Changes.{SameGround}
 use Rattle.boundary.specs.ChangesLaws.{Unchanged, same_ground, inside_same}
 use Rattle.code.specs.Code.{outside}
 use Rattle.unit.specs.declared.Kind.{Kind}
-use Rattle.chosen.specs.declared.Choice.{Choice}
 use Rattle.corners.specs.Corners.{corners_of}
 use Rattle.crossed.specs.Crossed.{pair_of, crossed, start_of}
 use Rattle.crossed.specs.CrossedLaws.{crossed_same}
@@ -155,7 +154,7 @@ chosen_same {cs} {ds} {c} g chosen = record {
 -- The code is the same for all of one ground
 pub code_same : {cs ds : List Point} → SameGround cs ds → (number : ℕ)
     → code_at (extremes_of cs) number (chosen_cell cs) ≡ code_at (extremes_of ds) number (chosen_cell ds)
-code_same g number = ap₂ (λ (r : Rectangle) (c : Choice). code_at r number c) (extremes_same g) (chosen_cell_same g)
+code_same g number = ap₂ (λ (r : Rectangle) (c : Option Cell). code_at r number c) (extremes_same g) (chosen_cell_same g)
 
 -- A test that some corner passes
 abbrev some : (Point → Bool) → List Point → Bool
@@ -215,11 +214,11 @@ unfolding corner_checks
 number_same {cs} {ds} g kind number =
     told cs ∙ (λ i. table (extremes_same g i) (crossed_same g i) (chosen_cell_same g i)) ∙ sym (told ds)
   where
-    rows : Choice → List Check
+    rows : Option Cell → List Check
     rows c = check 6 (bad_number kind number) ∷ check 7 (no_cell c) ∷ []
 
     -- the number alone: the places of 4 and 31 may differ
-    table : Rectangle → Bool → Choice → ℕ
+    table : Rectangle → Bool → Option Cell → ℕ
     table r crosses c =
         cond (ltb lat_end r.north.0 || ltb lon_end r.east.0) 4
         (cond (above_degree r) 5 (cond crosses 31 (run (rows c)).number))

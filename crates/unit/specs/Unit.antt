@@ -1,6 +1,6 @@
 -- Coding a unit (document 01, "The twenty characters" and "Replies"; document 02, requests 1 and 2): scale, spans, checks 1 to 7 and 31,
 -- and coding as one function from room, numbers, kind and unit number to reply and room. Assumes nothing.
-use Rattle.std.specs.Prelude.{ℕ, zero, suc, ◌+◌, ◌-◌, ◌*◌, ◌/◌, ◌%◌, max, Bool, true, false, cond, not, ◌||◌, List, [], ◌∷◌, ◌++◌, eqb, ltb, length}
+use Rattle.std.specs.Prelude.{ℕ, zero, suc, ◌+◌, ◌-◌, ◌*◌, ◌/◌, ◌%◌, max, Bool, true, false, cond, not, ◌||◌, List, [], ◌∷◌, ◌++◌, eqb, ltb, length, Option, Some, None}
 use Prim.Native.Char.{code}
 use Rattle.replies.specs.Replies.{Check, check, check_at, run, Outcome, outcome}
 use Rattle.facts.specs.Places.{first_place}
@@ -14,8 +14,6 @@ use Rattle.code.specs.declared.Fields.{Fields}
 use Rattle.code.specs.Code.{outside, finest_scale, code_of}
 use Rattle.unit.specs.declared.Kind.{Kind}
 use Rattle.unit.specs.declared.Kind.TheVariants.{Building, Other}
-use Rattle.chosen.specs.declared.Choice.{Choice}
-use Rattle.chosen.specs.declared.Choice.TheVariants.{At, Nowhere}
 use Rattle.corners.specs.Corners.{corners_of}
 use Rattle.boundary.specs.Boundary.{edges_of}
 use Rattle.crossed.specs.Crossed.{pair_of, crossed, start_of}
@@ -72,16 +70,16 @@ fields_of r number c =
     fields_at (level_of r number p) r number p
 
 -- The code of a unit from its extremes, its number and its chosen cell
-abbrev pub code_at : Rectangle → ℕ → Choice → List ℕ
-code_at r number (At c) = code_of (fields_of r number c)
-code_at r number Nowhere = []
+abbrev pub code_at : Rectangle → ℕ → Option Cell → List ℕ
+code_at r number (Some c) = code_of (fields_of r number c)
+code_at r number None = []
 
 -- The kind by the listing's letter: "`B` or `F` (building, other)"; any other letter is another kind too
 unfoldable pub kind_of : ℕ → Kind
 kind_of letter = cond (eqb letter (code "B")) Building Other
 
 -- The chosen cell of a unit's corners
-abbrev pub chosen_cell : List Point → Choice
+abbrev pub chosen_cell : List Point → Option Cell
 chosen_cell corners = choose (extremes_of corners) (edges_of corners)
 
 -- Check 1: output shorter than 20
@@ -125,12 +123,12 @@ abbrev pub number_check : Kind → ℕ → List Check
 number_check kind number = check 6 (bad_number kind number) ∷ []
 
 -- No cell of levels 9 to 27 is inside
-abbrev pub no_cell : Choice → Bool
-no_cell (At c) = false
-no_cell Nowhere = true
+abbrev pub no_cell : Option Cell → Bool
+no_cell (Some c) = false
+no_cell None = true
 
 -- Check 7, of the chosen cell. There is no check 8 (document 02, request 2)
-abbrev pub cell_check : Choice → List Check
+abbrev pub cell_check : Option Cell → List Check
 cell_check choice = check 7 (no_cell choice) ∷ []
 
 -- From 4 on: what the corners, the kind and the unit number tell

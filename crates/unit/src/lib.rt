@@ -7,8 +7,6 @@ ghost use Rattle.std.specs.Prelude.{◌≡◌};
 ghost use Rattle.unit.specs.Frame.{says};
 ghost use Rattle.unit.specs.Unit.{kind_of};
 
-use ground::Rectangle;
-
 // The kind of a unit.
 #[derive(Clone, Copy)]
 pub enum Kind {
@@ -17,19 +15,20 @@ pub enum Kind {
 }
 
 // The kind that a letter of the listing names: `B` a building, any other byte another kind.
+#[tactic(auto, unfolding(crate::specs::Unit::kind_of))]
 pub fn kind_of(letter: u8) -> Kind
     ensures { result ≡ kind_of letter }
 {
     if letter == b'B' {
-        return Kind::Building;
+        Kind::Building
+    } else {
+        Kind::Other
     }
-    Kind::Other
 }
 
-// What coding answers: acceptance, or what is refused (1 to 7, and 31 between 5 and 6).
+// What coding refuses (1 to 7, and 31 between 5 and 6).
 #[derive(Clone, Copy)]
-pub enum Coded {
-    Accepted,
+pub enum Refusal {
     Output,
     Pairs,
     Corners,
@@ -40,45 +39,31 @@ pub enum Coded {
     NoCell,
 }
 
-// What the checks before a cell is looked for leave to a road: their refusal, or the extents over which it
-// looks for one.
-#[derive(Drop)]
-pub enum Admission {
-    Refused(Coded),
-    Over(Rectangle),
-}
-
 // The number of an answer of coding.
-pub fn coded_number(answer: Coded) -> u32
+pub fn coded_number(answer: Result<(), Refusal>) -> u32
     ensures { result ≡ (says answer).number }
 {
     match answer {
-        Coded::Accepted => 0,
-        Coded::Output => 1,
-        Coded::Pairs => 2,
-        Coded::Corners => 3,
-        Coded::Range(_) => 4,
-        Coded::Extent => 5,
-        Coded::Crossed(_) => 31,
-        Coded::Number => 6,
-        Coded::NoCell => 7,
+        Ok(()) => 0,
+        Err(Refusal::Output) => 1,
+        Err(Refusal::Pairs) => 2,
+        Err(Refusal::Corners) => 3,
+        Err(Refusal::Range(_)) => 4,
+        Err(Refusal::Extent) => 5,
+        Err(Refusal::Crossed(_)) => 31,
+        Err(Refusal::Number) => 6,
+        Err(Refusal::NoCell) => 7,
     }
 }
 
 // The place of an answer of coding: the first corner above its range, or the corner where the first edge of
 // the first pair that meets starts, or 0.
-pub fn coded_place(answer: Coded) -> u32
+pub fn coded_place(answer: Result<(), Refusal>) -> u32
     ensures { result ≡ (says answer).place }
 {
     match answer {
-        Coded::Accepted => 0,
-        Coded::Output => 0,
-        Coded::Pairs => 0,
-        Coded::Corners => 0,
-        Coded::Range(corner) => corner,
-        Coded::Extent => 0,
-        Coded::Crossed(corner) => corner,
-        Coded::Number => 0,
-        Coded::NoCell => 0,
+        Err(Refusal::Range(corner)) => corner,
+        Err(Refusal::Crossed(corner)) => corner,
+        _ => 0,
     }
 }
