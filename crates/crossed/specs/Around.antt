@@ -1,5 +1,5 @@
 -- Edges in order around a ring: which of them meet, by their order alone, and that this is what makes a boundary crossed. Assumes nothing.
-use Rattle.std.specs.Prelude.{ℕ, suc, ◌≤◌, ◌<◌, ◌≡◌, refl, Bool, true, false, cond, ◌||◌, List, [], ◌∷◌, get_or}
+use Rattle.std.specs.Prelude.{ℕ, Option, Some, None, suc, ◌≤◌, ◌<◌, ◌≡◌, refl, Bool, true, false, cond, ◌||◌, List, [], ◌∷◌, get_or}
 use Rattle.std.proofs.Common.{arith, ap₂, ◌∙◌}
 use Rattle.std.proofs.Math.Bool.{or-false}
 use borrow.Author.Tests.{eq-eqb, ne_eqb}
@@ -7,8 +7,6 @@ use Rattle.ground.specs.declared.Point.{Point}
 use Rattle.edge.specs.Edge.{Edge, no_length}
 use Rattle.boundary.specs.Boundary.{joined, with_length, edges_of, places_from, places_of}
 use Rattle.pair.specs.Pair.{share_point, share_more}
-use Rattle.crossed.specs.declared.Met.{Met}
-use Rattle.crossed.specs.declared.Met.TheVariants.{Pair, Nowhere}
 use Rattle.crossed.specs.Crossed.{Placed, placed, placed_of, meet, or_else, first_later, first_pair, pair_of, is_pair, crossed}
 
 -- An edge shares a point with one of some others
@@ -63,9 +61,9 @@ numbered i (e ∷ es) = at (no_length e) (numbered (suc i) es)
     at false r = one {i = i} {j = i} (omega arith) r
 
 -- A pair is found in one place or else in another
-pair_else : (m n : Met) → is_pair (or_else m n) ≡ (is_pair m || is_pair n)
-pair_else (Pair i j) n = refl
-pair_else Nowhere n = refl
+pair_else : (m n : Option (ℕ × ℕ)) → is_pair (or_else m n) ≡ (is_pair m || is_pair n)
+pair_else (Some pair) n = refl
+pair_else None n = refl
 
 module _ (e f : Placed) where
   -- Two edges of which the second follows the first
@@ -87,7 +85,7 @@ module _ (e f : Placed) where
   pair_later : (fs : List Placed) {b c : Bool} → meet e f ≡ b → is_pair (first_later e fs) ≡ c → is_pair (first_later e (f ∷ fs)) ≡ (b || c)
   pair_later fs p q = at (meet e f) ∙ ap₂ ◌||◌ p q
     where
-      at : (b : Bool) → is_pair (cond b (Pair e.place f.place) (first_later e fs)) ≡ (b || is_pair (first_later e fs))
+      at : (b : Bool) → is_pair (cond b (Some (e.place, f.place)) (first_later e fs)) ≡ (b || is_pair (first_later e fs))
       at true = refl
       at false = refl
 

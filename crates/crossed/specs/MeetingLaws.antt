@@ -1,6 +1,6 @@
 -- The laws of edges by places: the boundary's edges are those from the places one by one, and the first pair of them is found by places.
 -- Assumes nothing.
-use Rattle.std.specs.Prelude.{ℕ, zero, suc, ◌+◌, ◌-◌, ◌/◌, ◌≤◌, ◌<◌, ◌≡◌, Bool, ◌&&◌, eqb, length}
+use Rattle.std.specs.Prelude.{ℕ, Option, Some, None, zero, suc, ◌+◌, ◌-◌, ◌/◌, ◌≤◌, ◌<◌, ◌≡◌, Bool, ◌&&◌, eqb, length}
 use Rattle.std.proofs.Common.{add-one, ◌∙◌}
 use native.Mathlib.Omega.{arith}
 use Rattle.std.proofs.Math.Path.{refl, ap, ap₂, sym}
@@ -16,8 +16,6 @@ use Rattle.boundary.specs.Listed.{place_after, edge_from}
 use Rattle.boundary.specs.ListedLaws.{edges_after, edges_after_lem, edges_over, all_places}
 use Rattle.pair.specs.Pair.{overlapping, share_more}
 use Rattle.pair.specs.PairLaws.{apart_share, apart_more, overlapping_comm}
-use Rattle.crossed.specs.declared.Met.{Met}
-use Rattle.crossed.specs.declared.Met.TheVariants.{Pair, Nowhere}
 use Rattle.crossed.specs.Crossed.{Placed, placed, placed_of, meet, or_else, first_later, first_pair, pair_of}
 use Rattle.crossed.specs.Around.{meet_next}
 use Rattle.crossed.specs.Meeting.{start_from, following, placed_at, meeting}
@@ -139,7 +137,7 @@ module _ (numbers : List ℕ) where
       at true l = ap (first_later (placed_at numbers i)) (from_skip j less l)
       at false l =
           ap (first_later (placed_at numbers i)) (from_first j less l)
-          ∙ ap (λ (b : Bool). cond b (Pair i j) (first_later (placed_at numbers i) (from (j + 1)))) (meeting_so i j e l ∙ h j (omega arith) (omega arith))
+          ∙ ap (λ (b : Bool). cond b (Some (i, j)) (first_later (placed_at numbers i) (from (j + 1)))) (meeting_so i j e l ∙ h j (omega arith) (omega arith))
 
   -- No edge before a place meets a later one
   abbrev pub Tried : ℕ → Type 0
@@ -156,14 +154,14 @@ module _ (numbers : List ℕ) where
       less : i < length numbers / 2
       less = omega arith
 
-      none : no_length (edge_from numbers i) ≡ false → first_later (placed_at numbers i) (from (i + 1)) ≡ Nowhere
+      none : no_length (edge_from numbers i) ≡ false → first_later (placed_at numbers i) (from (i + 1)) ≡ None
       none e =
           pass i e (length numbers / 2 - (i + 1)) (i + 1) (length numbers / 2) (omega arith) (omega arith) (h i (omega arith))
           ∙ ap (first_later (placed_at numbers i)) (from_none (length numbers / 2) (omega arith))
 
       at : (b : Bool) → no_length (edge_from numbers i) ≡ b → first_pair (from i) ≡ first_pair (from (i + 1))
       at true e = ap first_pair (from_skip i less e)
-      at false e = ap first_pair (from_first i less e) ∙ ap (λ (m : Met). or_else m (first_pair (from (i + 1)))) (none e)
+      at false e = ap first_pair (from_first i less e) ∙ ap (λ (m : Option (ℕ × ℕ)). or_else m (first_pair (from (i + 1)))) (none e)
 
   tried : (i : ℕ) → i ≤ length numbers / 2 → Tried i → pair_of (corners_of numbers) ≡ first_pair (from i)
   unfolding pair_of
@@ -172,22 +170,22 @@ module _ (numbers : List ℕ) where
       ap first_pair from_all ∙ try i 0 (omega arith) (λ x l. h x (omega arith)) ∙ ap (λ (x : ℕ). first_pair (from x)) same
 
   -- Where all are tried, there is no pair
-  pub nowhere : Tried (length numbers / 2) → Nowhere ≡ pair_of (corners_of numbers)
+  pub nowhere : Tried (length numbers / 2) → None ≡ pair_of (corners_of numbers)
   nowhere h = sym (tried (length numbers / 2) (omega arith) h ∙ ap first_pair (from_none (length numbers / 2) (omega arith)))
 
   -- and two that meet, the edges before the first tried and those between them passed, are the first pair
   pub pair_found : (i j : ℕ) → i < j → j < length numbers / 2 → Tried i → Passed i (i + 1) j → meeting numbers i j ≡ true
-      → Pair i j ≡ pair_of (corners_of numbers)
+      → Some (i, j) ≡ pair_of (corners_of numbers)
   pair_found i j h k before between t =
       let ls = lengths i j t in
-      let later : first_later (placed_at numbers i) (from (i + 1)) ≡ Pair i j =
+      let later : first_later (placed_at numbers i) (from (i + 1)) ≡ Some (i, j) =
       pass i ls.0 (j - (i + 1)) (i + 1) j (omega arith) (omega arith) between
       ∙ ap (first_later (placed_at numbers i)) (from_first j k ls.1.0)
-      ∙ ap (λ (b : Bool). cond b (Pair i j) (first_later (placed_at numbers i) (from (j + 1)))) ls.1.1 in
+      ∙ ap (λ (b : Bool). cond b (Some (i, j)) (first_later (placed_at numbers i) (from (j + 1)))) ls.1.1 in
       sym
       (tried i (omega arith) before
       ∙ ap first_pair (from_first i (omega arith) ls.0)
-      ∙ ap (λ (m : Met). or_else m (first_pair (from (i + 1)))) later)
+      ∙ ap (λ (m : Option (ℕ × ℕ)). or_else m (first_pair (from (i + 1)))) later)
 
   -- Edges whose extents are apart do not meet
   pub apart_meeting : (i j : ℕ) → overlapping (edge_from numbers i) (edge_from numbers j) ≡ false → meeting numbers i j ≡ false

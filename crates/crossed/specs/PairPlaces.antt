@@ -1,11 +1,9 @@
 -- The pair at which the test of a boundary stops names corners of the list: both its places are below their number. Assumes nothing.
-use Rattle.std.specs.Prelude.{ℕ, suc, ◌+◌, ◌≤◌, ◌<◌, ◌≡◌, refl, Bool, true, false, cond, List, [], ◌∷◌, length}
+use Rattle.std.specs.Prelude.{ℕ, Option, Some, None, suc, ◌+◌, ◌≤◌, ◌<◌, ◌≡◌, refl, Bool, true, false, cond, List, [], ◌∷◌, length}
 use Rattle.std.proofs.Common.{arith, ap, subst}
 use Rattle.ground.specs.declared.Point.{Point}
 use Rattle.edge.specs.Edge.{Edge, no_length}
 use Rattle.boundary.specs.Boundary.{joined, edges_of, places_from, places_of}
-use Rattle.crossed.specs.declared.Met.{Met}
-use Rattle.crossed.specs.declared.Met.TheVariants.{Pair, Nowhere}
 use Rattle.crossed.specs.Crossed.{Placed, placed, placed_of, meet, or_else, first_later, first_pair, pair_of}
 
 -- Edges that start at places below a number
@@ -14,9 +12,9 @@ Below n [] = Unit {0}
 Below n (e ∷ es) = (e.place < n) × Below n es
 
 -- An answer whose places, if it has any, are below it
-abbrev Within : ℕ → Met → Type 0
-Within n (Pair i j) = (i < n) × (j < n)
-Within n Nowhere = Unit {0}
+abbrev Within : ℕ → Option (ℕ × ℕ) → Type 0
+Within n (Some pair) = (pair.0 < n) × (pair.1 < n)
+Within n None = Unit {0}
 
 -- There are as many edges as corners
 joined_length : (first here : Point) (cs : List Point) → length (joined first here cs) ≡ suc (length cs)
@@ -40,13 +38,13 @@ module _ (n : ℕ) where
   later_within e [] h below = tt
   later_within e (f ∷ fs) h below = at (meet e f) (later_within e fs h below.1)
     where
-      at : (b : Bool) → Within n (first_later e fs) → Within n (cond b (Pair e.place f.place) (first_later e fs))
+      at : (b : Bool) → Within n (first_later e fs) → Within n (cond b (Some (e.place, f.place)) (first_later e fs))
       at true later = (h, below.0)
       at false later = later
 
-  else_within : (m other : Met) → Within n m → Within n other → Within n (or_else m other)
-  else_within (Pair i j) other h k = h
-  else_within Nowhere other h k = k
+  else_within : (m other : Option (ℕ × ℕ)) → Within n m → Within n other → Within n (or_else m other)
+  else_within (Some pair) other h k = h
+  else_within None other h k = k
 
   first_within : (es : List Placed) → Below n es → Within n (first_pair es)
   first_within [] below = tt
@@ -60,6 +58,6 @@ placed_below [] = tt
 placed_below (c ∷ cs) = places_below (suc (length cs)) 0 _ (joined c c cs) _ (omega (arith, joined_length c c cs))
 
 -- so a pair that is found names two of them
-pub pair_within : (corners : List Point) {i j : ℕ} → pair_of corners ≡ Pair i j → (i < length corners) × (j < length corners)
+pub pair_within : (corners : List Point) {i j : ℕ} → pair_of corners ≡ Some (i, j) → (i < length corners) × (j < length corners)
 unfolding pair_of
 pair_within corners e = subst (Within (length corners)) e (first_within (length corners) (placed_of corners) (placed_below corners))

@@ -1,10 +1,9 @@
 -- The search for the first pair: what is known before each edge, and before each later one. Assumes nothing.
-use Rattle.std.specs.Prelude.{ℕ, ◌+◌, ◌/◌, ◌≤◌, ◌<◌, max, ◌≡◌, ◌⊎◌, true, false, List, length, get_or}
+use Rattle.std.specs.Prelude.{ℕ, Some, None, ◌+◌, ◌/◌, ◌≤◌, ◌<◌, max, ◌≡◌, ◌⊎◌, true, false, List, length, get_or}
 use Rattle.std.proofs.Common.{arith, subst, inl, inr}
 use Rattle.facts.specs.Numbers.{either_way}
 use Rattle.corners.specs.Corners.{corners_of}
 use Rattle.boundary.specs.Listed.{edge_from}
-use Rattle.crossed.specs.declared.Met.TheVariants.{Pair, Nowhere}
 use Rattle.crossed.specs.Crossed.{pair_of}
 use Rattle.crossed.specs.Meeting.{meeting}
 use Rattle.crossed.specs.MeetingLaws.{Tried, nowhere, pair_found, apart_meeting}
@@ -89,11 +88,11 @@ module _ {numbers : List ℕ} {i : ℕ} where
 
 -- Past the last edge there is no pair
 pub search_nowhere : {numbers near : List ℕ} {run i : ℕ} → Before numbers near run i → length numbers / 2 ≤ i
-    → Nowhere ≡ pair_of (corners_of numbers)
+    → None ≡ pair_of (corners_of numbers)
 search_nowhere {numbers} before over = nowhere numbers (λ x h. before.tried x (omega arith))
 
 -- and two that meet are the first pair
 pub search_pair : {numbers near : List ℕ} {run i j : ℕ} → Before numbers near run i → Between numbers i j → j < length numbers / 2
-    → meeting numbers i j ≡ true → Pair i j ≡ pair_of (corners_of numbers)
+    → meeting numbers i j ≡ true → Some (i, j) ≡ pair_of (corners_of numbers)
 search_pair {numbers} {near} {run} {i} {j} before b less t =
     pair_found numbers i j b.after less before.tried (λ y h k. b.passed y (omega arith) k (omega arith)) t

@@ -11,16 +11,8 @@ ghost use Rattle.std.specs.Prelude.{◌/◌, ◌≤◌, ◌≡◌, length};
 ghost use Rattle.corners.specs.Corners.{corners_of};
 ghost use Rattle.crossed.specs.Crossed.{pair_of};
 
-// What the test of a boundary answers: the first pair of edges that meets, each by the place of the corner
-// where it starts, or that there is none.
-#[derive(Drop)]
-pub enum Met {
-    Pair(usize, usize),
-    Nowhere,
-}
-
 // The first pair of up to 1,024 edges, with rooms for the extents of their rows and for what is near a row.
-fn pair_of_many(numbers: &[u32]) -> Met
+fn pair_of_many(numbers: &[u32]) -> Option<(usize, usize)>
     requires { length numbers.now / 2 ≤ 1024 }
     ensures { result ≡ pair_of (corners_of numbers.now) }
 {
@@ -30,9 +22,9 @@ fn pair_of_many(numbers: &[u32]) -> Met
     search::search(numbers, &extents, &mut near)
 }
 
-// The first pair of edges of a boundary that meets, by first edge, then second, for all numbers. Rows pay
-// where there are several of them.
-pub fn first_pair(numbers: &[u32]) -> Met
+// The first pair of edges of a boundary that meets, by first edge, then second, for all numbers, each by the
+// place of the corner where it starts; none where no two meet. Rows pay where there are several of them.
+pub fn first_pair(numbers: &[u32]) -> Option<(usize, usize)>
     ensures { result ≡ pair_of (corners_of numbers.now) }
 {
     let count = numbers.len() / 2;

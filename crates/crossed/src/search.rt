@@ -4,14 +4,13 @@ ghost use Rattle.corners.specs.Corners.{corners_of};
 ghost use Rattle.crossed.specs.Crossed.{pair_of};
 ghost use Rattle.crossed.specs.NearRows.{Rooms};
 
-use crate::Met;
 use crate::leap::{ahead, leap};
 use crate::meeting::meeting;
 use crate::rows::renew;
 use crate::run::run_on;
 
 // The first pair of edges that meets; rooms for rows may be empty.
-pub(crate) fn search(numbers: &[u32], extents: &[u32], near: &mut [usize]) -> Met
+pub(crate) fn search(numbers: &[u32], extents: &[u32], near: &mut [usize]) -> Option<(usize, usize)>
     requires { Rooms numbers.now extents.now (length near.old) }
     ensures { result ≡ pair_of (corners_of numbers.now) }
 {
@@ -20,7 +19,7 @@ pub(crate) fn search(numbers: &[u32], extents: &[u32], near: &mut [usize]) -> Me
     let mut i = 0;
     'edges: loop {
         if count <= i {
-            break 'edges Met::Nowhere;
+            break 'edges None;
         }
         run = run_on(numbers, i, run);
         renew(numbers, extents, i, near);
@@ -28,7 +27,7 @@ pub(crate) fn search(numbers: &[u32], extents: &[u32], near: &mut [usize]) -> Me
         while j < count {
             j = leap(numbers, extents, near, i, j);
             if j < count && meeting(numbers, i, j) {
-                break 'edges Met::Pair(i, j);
+                break 'edges Some((i, j));
             }
             j += 1;
         }
