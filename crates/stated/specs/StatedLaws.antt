@@ -1,6 +1,6 @@
 -- The laws of the unit that a line states: what the words after its kind say, that all coordinates are held, and what is said of it.
 -- Assumes nothing.
-use Rattle.std.specs.Prelude.{Option, Some, None, ℕ, suc, ◌+◌, ◌*◌, ◌≤◌, ◌<◌, refl, Bool, cond, ◌&&◌, length, take, drop, get_or, eqb}
+use Rattle.std.specs.Prelude.{Some, None, ℕ, suc, ◌+◌, ◌*◌, ◌≤◌, ◌<◌, refl, Bool, cond, ◌&&◌, length, take, drop, get_or, eqb}
 use Rattle.std.proofs.Common.{arith, sym, ◌∙◌}
 use Rattle.std.proofs.Math.Path.{◌≡◌, ap}
 use Rattle.std.proofs.Math.Bool.{true, false, and-true}
@@ -48,7 +48,7 @@ module _ (kind : ℕ) (line : List ℕ) (known : is_kind (kind ∷ []) ≡ true)
         let none = not_all_numbers (every is_number words) (length words) (rw (cut_found line 2 n end at) at m) in
         rw (cut_word (drop 2 line), known, (found line 2 n end at).number, none)
 
-    pub unit_stated : (count : ℕ) → count_in (drop end line) ≡ Some count → unit_after kind line ≡ Some (its kind n count)
+    pub unit_stated : (count : ℕ) → count_in (drop end line) ≡ Some count → unit_after kind line ≡ Some (record { letter = kind; number = n; count = count })
     unfolding unit_after count_in
     unit_stated count m =
         let words : List (List ℕ) = words_after (drop 2 line) in
@@ -146,45 +146,46 @@ numbers_spread ([] ∷ words) h = let z : ◌≡◌ {A = ℕ} 0 1 = cc in absurd
 numbers_spread ((b ∷ w) ∷ words) h = omega (arith, numbers_spread words (both (is_number (b ∷ w)) (every is_number words) h).1)
 
 -- the unit that words state
-record States (words : List (List ℕ)) (kind number count : ℕ) : Type 0 where
-  pub says : form_of words ≡ unit kind number (coordinates_of words)
-  pub counts : length (coordinates_of words) ≡ count
-  pub few : 2 * count < spread words
+record States (words : List (List ℕ)) (u : Unit) : Type 0 where
+  pub says : form_of words ≡ unit u.letter u.number (coordinates_of words)
+  pub counts : length (coordinates_of words) ≡ u.count
+  pub few : 2 * u.count < spread words
 
-states : (words : List (List ℕ)) (kind number count : ℕ) → unit_said (form_of words) ≡ Some (its kind number count) → States words kind number count
+states : (words : List (List ℕ)) (u : Unit) → unit_said (form_of words) ≡ Some u → States words u
 unfolding spread
-states [] kind number count e = let z : ◌≡◌ {A = ℕ} 0 1 = cc in absurd (omega arith)
-states (k ∷ []) kind number count e = let z : ◌≡◌ {A = ℕ} 0 1 = cc in absurd (omega arith)
-states (k ∷ n ∷ words) kind number count e = pick (is_kind k) (is_number n) (every is_number words) refl refl refl e
+states [] u e = let z : ◌≡◌ {A = ℕ} 0 1 = cc in absurd (omega arith)
+states (k ∷ []) u e = let z : ◌≡◌ {A = ℕ} 0 1 = cc in absurd (omega arith)
+states (k ∷ n ∷ words) u e = pick (is_kind k) (is_number n) (every is_number words) refl refl refl e
   where
     its : Form
     its = unit (get_or k 0 0) (value n) (map value words)
 
     pick : (a b c : Bool) → is_kind k ≡ a → is_number n ≡ b → every is_number words ≡ c
-        → unit_said (cond (a && (b && c)) its not_of_this_form) ≡ Some (its kind number count) → States (k ∷ n ∷ words) kind number count
+        → unit_said (cond (a && (b && c)) its not_of_this_form) ≡ Some u → States (k ∷ n ∷ words) u
     pick true true true p q r e =
         let all : leading words ≡ map value words = leading_all words r in
-        let same : length (map value words) ≡ count = cc in
+        let same : ◌≡◌ {A = Unit} (record { letter = get_or k 0 0; number = value n; count = length (map value words) }) u = cc in
+        let count : length (map value words) ≡ u.count = ap (λ (v : Unit). v.count) same in
         record {
-          says = rw (p, q, r, all) (cc);
-          counts = rw (p, q, all) same;
-          few = omega (arith, numbers_spread words r, length-map words value, same);
+          says = rw (p, q, r, all) (ap (λ (v : Unit). unit v.letter v.number (map value words)) same);
+          counts = rw (p, q, all) count;
+          few = omega (arith, numbers_spread words r, length-map words value, count);
         }
     pick true true false p q r e = let z : ◌≡◌ {A = ℕ} 0 1 = cc in absurd (omega arith)
     pick true false c p q r e = let z : ◌≡◌ {A = ℕ} 0 1 = cc in absurd (omega arith)
     pick false b c p q r e = let z : ◌≡◌ {A = ℕ} 0 1 = cc in absurd (omega arith)
 
-module _ (line : List ℕ) {kind number count : ℕ} (e : unit_said (form line) ≡ Some (its kind number count)) where
+module _ (line : List ℕ) {u : Unit} (e : unit_said (form line) ≡ Some u) where
   -- the unit that a line states, with its coordinates; each takes a space and a digit of the line
-  pub stated : (form line ≡ unit kind number (coordinates_in line)) × (length (coordinates_in line) ≡ count) × (2 * count ≤ length line)
+  pub stated : (form line ≡ unit u.letter u.number (coordinates_in line)) × (length (coordinates_in line) ≡ u.count) × (2 * u.count ≤ length line)
   unfolding form coordinates_in
   stated =
-      let so = states (cut 32 line) kind number count e in
+      let so = states (cut 32 line) u e in
       (so.says, so.counts, omega (arith, so.few, cut_spread line))
 
   -- in a room for half as many numbers as a line may have bytes, all coordinates are held
   pub unit_held : (room later : List ℕ) → length line ≤ longest → longest ≤ 2 * length room → later ≡ put_at room 0 (coordinates_in line)
-      → (count ≤ length later) × (take count later ≡ coordinates_in line)
+      → (u.count ≤ length later) × (take u.count later ≡ coordinates_in line)
   unit_held room later h k p =
       let so = stated in
       let fits : length (coordinates_in line) ≤ length room = omega (arith, so.1, so.2) in
@@ -203,5 +204,5 @@ module _ (coding : Coding) (line : List ℕ) (h : length line ≤ longest) where
       bad (unit kind number coordinates) e = let z : ◌≡◌ {A = ℕ} 0 1 = cc in absurd (omega arith)
       bad not_of_this_form e = refl
 
-  pub said_unit : {kind number count : ℕ} → unit_said (form line) ≡ Some (its kind number count) → line_said coding line ≡ coding kind number (coordinates_in line)
+  pub said_unit : {u : Unit} → unit_said (form line) ≡ Some u → line_said coding line ≡ coding u.letter u.number (coordinates_in line)
   said_unit e = said_form coding line h ∙ ap (form_said coding) (stated line e).0
