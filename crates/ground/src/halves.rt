@@ -22,11 +22,7 @@ pub fn narrowest(level: u32) -> u32
 fn split(level: u32, low: u32, high: u32) -> u32
     ensures { result ≡ split_at level low high }
 {
-    let part = size(level);
-    if high <= low {
-        return high;
-    }
-    if part < high - low { low + part } else { high }
+    low.saturating_add(size(level)).min(high)
 }
 
 // The latitude at which ground is halved into cells of a level; its north side where it is not.

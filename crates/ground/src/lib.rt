@@ -42,17 +42,17 @@ pub const LOCATION_SIZE: u32 = 32;
 // A latitude in u, north of the equator. It, a longitude, a point and a rectangle are laid out as in C,
 // so that callers in other languages can have them.
 #[repr(C)]
-#[derive(Clone, Copy)]
+#[derive(Clone, Copy, PartialEq, Eq)]
 pub struct Lat(pub u32);
 
 // A longitude in u, east of the prime meridian.
 #[repr(C)]
-#[derive(Clone, Copy)]
+#[derive(Clone, Copy, PartialEq, Eq)]
 pub struct Lon(pub u32);
 
 // A point of the ground: a corner, a centre, a reference.
 #[repr(C)]
-#[derive(Clone, Copy)]
+#[derive(Clone, Copy, PartialEq, Eq)]
 pub struct Point {
     pub lat: Lat,
     pub lon: Lon,

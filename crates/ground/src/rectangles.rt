@@ -9,11 +9,9 @@ use angles::{greater, lesser};
 pub fn south_west(r: Rectangle) -> Point
     ensures { result ≡ south_west r }
 {
-    let west = r.west;
-    let south = r.south;
     Point {
-        lat: south,
-        lon: west,
+        lat: r.south,
+        lon: r.west,
     }
 }
 
