@@ -6,7 +6,7 @@
 // error, and so is a read or a write that fails, and then nothing more is written.
 #![tactic(auto)]
 
-ghost use Rattle.std.specs.Prelude.{◌≤◌, ◌<◌, length};
+ghost use Rattle.std.specs.Prelude.{◌≤◌, ◌<◌, length, IfOk};
 ghost use Rattle.output.specs.Written.{Starts};
 ghost use Rattle.replaying.specs.Replay.{replayed};
 ghost use Rattle.summary.specs.Summary.{summary_of};
@@ -21,60 +21,57 @@ const MOST: usize = 1048576;
 // One more, so that a longer page shows.
 const PAGE: usize = MOST + 1;
 
-// What reading leaves: how many bytes of the input stand at the start of the page, and whether no read
-// failed.
+// What fails and ends the program: a read, a write, or a page that is too long.
 #[derive(Drop)]
-struct Filled {
-    len: usize,
-    sound: bool,
+enum Failed {
+    Read(io::Error),
+    Write(io::Error),
+    TooLong,
 }
 
 fn main(rt: HostRuntime) {
     let mut page = [0u8; PAGE];
     let mut output = [0u8; summary::MOST];
-    run(&rt, &mut page, &mut output);
+    match run(&rt, &mut page, &mut output) {
+        Ok(()) => (),
+        Err(Failed::Read(e)) => say(&rt, "standard input", e),
+        Err(Failed::Write(e)) => say(&rt, "standard output", e),
+        Err(Failed::TooLong) => {
+            let _ = eprintln!(rt; "replay: the page has more than 1048576 bytes");
+        }
+    }
 }
 
 // Reads a page, and writes the summary of its replay. There is room for more than a page may have, so that
 // none is cut.
-fn run(rt: &HostRuntime, page: &mut [u8], output: &mut [u8])
+fn run(rt: &HostRuntime, page: &mut [u8], output: &mut [u8]) -> Result<(), Failed>
     requires in_bounds { 1048576 < length page.old }
     requires summary_most_in_bounds { summary_most ≤ length output.old }
 {
-    let filled = fill(rt, page);
-    let len = filled.len;
-    if !filled.sound {
-        return;
-    }
+    let len = fill(rt, page).map_err(Failed::Read)?;
     if len > MOST {
-        let _ = eprintln!(rt; "replay: the page has more than 1048576 bytes");
-        return;
+        return Err(Failed::TooLong);
     }
     let count = tell(&page[..len], output);
-    write_out(rt, output, count);
+    rt.stdout()
+        .write_all(&output[..count])
+        .map_err(Failed::Write)
 }
 
-// Reads until the input ends or the page is full. A read that brings nothing is the end, so that each
-// other fills some of the page.
-fn fill(rt: &HostRuntime, page: &mut [u8]) -> Filled
-    ensures { result.len ≤ length page.new }
+// Reads until the input ends or the page is full, and says how many bytes of it stand at the page's start. A
+// read that brings nothing is the end, so that each other fills some of the page.
+fn fill(rt: &HostRuntime, page: &mut [u8]) -> io::Result<usize>
+    ensures { IfOk result (λ len. len ≤ length page.new) }
 {
     let mut len = 0;
     while len < page.len() {
-        let rest = &mut page[len..];
-        let n = match rt.stdin().read(rest) {
-            Ok(n) => n,
-            Err(e) => {
-                say(rt, "standard input", e);
-                return Filled { len, sound: false };
-            }
-        };
+        let n = rt.stdin().read(&mut page[len..])?;
         if n == 0 {
-            return Filled { len, sound: true };
+            break;
         }
         len += n;
     }
-    Filled { len, sound: true }
+    Ok(len)
 }
 
 // The summary of the replay of a page, whole, at the start of the output.
@@ -84,15 +81,6 @@ fn tell(page: &[u8], output: &mut [u8]) -> usize
 {
     let replayed = replaying::replay(page);
     summary::put_summary(replayed, output)
-}
-
-// Writes the first bytes of the output, or says that it cannot.
-fn write_out(rt: &HostRuntime, output: &[u8], count: usize)
-    requires { count ≤ length output.now }
-{
-    if let Err(e) = rt.stdout().write_all(&output[..count]) {
-        say(rt, "standard output", e);
-    }
 }
 
 // Says on standard error what failed; who closed a pipe wants no word. Where it cannot be written, nothing is
