@@ -10,7 +10,7 @@ use Rattle.room.specs.Room.{fitting, put_at, Put}
 -- ---- element by element
 
 -- nothing fits at or past a room's end
-put_none : {A : Type 0} (room : List A) (at : ℕ) (text : List A) → length room ≤ at → put_at room at text ≡ room
+pub put_none : {A : Type 0} (room : List A) (at : ℕ) (text : List A) → length room ≤ at → put_at room at text ≡ room
 unfolding put_at
 put_none room at text h =
     let none : min (length text) (length room - at) ≡ 0 = omega arith in

@@ -8,12 +8,11 @@ ghost use Rattle.room.specs.Room.{Put};
 pub fn put(out: &mut [u8], at: usize, text: &[u8]) -> usize
     ensures { Put out.old at text.now result out.new }
 {
-    let n = fitting(text.len(), out.len(), at);
-    let mut i = 0;
-    while i < n {
-        out[at + i] = text[i];
-        i += 1;
+    if out.len() < at {
+        return at;
     }
+    let n = fitting(text.len(), out.len(), at);
+    out[at..at + n].copy_from_slice(&text[..n]);
     at + n
 }
 
@@ -21,8 +20,5 @@ pub fn put(out: &mut [u8], at: usize, text: &[u8]) -> usize
 fn fitting(count: usize, size: usize, at: usize) -> usize
     ensures { result ≡ min count (size - at) }
 {
-    if size <= at {
-        return 0;
-    }
-    if count < size - at { count } else { size - at }
+    count.min(size.saturating_sub(at))
 }
