@@ -5,8 +5,7 @@ ghost use Rattle.std.specs.Prelude.{◌≡◌, ◌||◌, ltb};
 ghost use Rattle.replies.specs.Replies.{run};
 ghost use Rattle.code.specs.Code.{past59, short_span, fields_in, span_checks, told_where, tells, reading_numbers, reading};
 
-use code::{Fields, Reading};
-use spelling::Spelled;
+use code::{Fields, ReadError, Reading};
 
 // Whether a is less than b, or c than d.
 fn either_less(a: u32, b: u32, c: u32, d: u32) -> bool
@@ -45,50 +44,47 @@ fn fields_in(location: u64, rest: u64) -> Fields
 }
 
 // Reads fields: scale and spans are refused (17 and 18), or told.
-fn read_fields(f: Fields) -> Reading
-    ensures { tells result ≡ told_where (run (span_checks f)) f }
+fn read_fields(fields: Fields) -> Result<Reading, ReadError>
+    ensures { tells result ≡ told_where (run (span_checks fields)) fields }
 {
-    if code::outside(14, code::FINEST_SCALE, f.scale) {
-        return Reading::Scale;
+    if code::outside(14, code::FINEST_SCALE, fields.scale) {
+        return Err(ReadError::Scale);
     }
-    if short_span(f) {
-        return Reading::Span;
+    if short_span(fields) {
+        return Err(ReadError::Span);
     }
-    Reading::Accepted(f, rectangle::rectangle_of(f))
+    let rectangle = rectangle::rectangle_of(fields);
+    Ok(Reading { fields, rectangle })
 }
 
 // Reads two numbers: the bits of the location are refused (13 to 16), or the fields read.
-pub fn read_numbers(location: u64, rest: u64) -> Reading
+pub fn read_numbers(location: u64, rest: u64) -> Result<Reading, ReadError>
     ensures { tells result ≡ reading_numbers location rest }
 {
     if location % 2 == 0 {
-        return Reading::Closing;
+        return Err(ReadError::Closing);
     }
     let lat = location::lat_in(location);
     let lon = location::lon_in(location);
     if either_less(0, lat / 0x400_0000, 0, lon / 0x400_0000) {
-        return Reading::Hemisphere;
+        return Err(ReadError::Hemisphere);
     }
     if either_less(89, lat / 0x4_0000, 179, lon / 0x4_0000) {
-        return Reading::Degrees;
+        return Err(ReadError::Degrees);
     }
     if past_59(lat) {
-        return Reading::Sixty;
+        return Err(ReadError::Sixty);
     }
     if past_59(lon) {
-        return Reading::Sixty;
+        return Err(ReadError::Sixty);
     }
     read_fields(fields_in(location, rest))
 }
 
 // Reads a text of any length and any bytes: its two numbers (or 11 and 12), and then these.
-pub fn read(text: &[u8]) -> Reading
+pub fn read(text: &[u8]) -> Result<Reading, ReadError>
     ensures { tells result ≡ reading text.now }
 {
-    let numbers = spelling::numbers_in(text);
-    match numbers {
-        Spelled::Numbers(location, rest) => read_numbers(location, rest),
-        Spelled::Length => Reading::Length,
-        Spelled::Letter(byte) => Reading::Letter(byte),
-    }
+    let (location, rest) = spelling::numbers_in(text)?;
+    read_numbers(location, rest)
 }
