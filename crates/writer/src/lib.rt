@@ -6,7 +6,7 @@ ghost use Rattle.replies.specs.Replies.{run};
 ghost use Rattle.code.specs.Code.{no_reference, no_point, no_spans, field_checks, rest_of, says, leaves, writing};
 ghost use Rattle.code.specs.WritingLaws.{Good};
 
-use code::{Fields, Written};
+use code::{Fields, WriteError};
 use ground::Point;
 
 // Whether an angle is no multiple of 32, or at or above its end.
@@ -46,36 +46,33 @@ fn rest_of(f: Fields) -> u64
 }
 
 // Whether a code can have such fields: what is refused (22 to 25), or acceptance.
-fn checks(f: Fields) -> Written
+fn checks(f: Fields) -> Result<(), WriteError>
     ensures { says result ≡ run (field_checks f) }
 {
     if no_point(f.reference) {
-        return Written::Reference;
+        return Err(WriteError::Reference);
     }
     if code::outside(14, code::FINEST_SCALE, f.scale) {
-        return Written::Scale;
+        return Err(WriteError::Scale);
     }
     if no_spans(f) {
-        return Written::Span;
+        return Err(WriteError::Span);
     }
     if 1048575 < f.number {
-        return Written::Number;
+        return Err(WriteError::Number);
     }
-    Written::Accepted
+    Ok(())
 }
 
 // Writes the code of fields into bytes 0 to 19 of a room, or refuses and writes nothing.
-pub fn write(room: &mut [u8], fields: Fields) -> Written
+pub fn write(room: &mut [u8], fields: Fields) -> Result<(), WriteError>
     ensures { leaves result room.new ≡ writing room.old fields }
 {
     if room.len() < 20 {
-        return Written::Output;
+        return Err(WriteError::Output);
     }
-    let answer = checks(fields);
-    if code::written_number(answer) != 0 {
-        return answer;
-    }
-    let reference = fields.reference;
-    spelling::spell(room, location::location_of(reference), rest_of(fields));
-    Written::Accepted
+    checks(fields)?;
+    let location = location::location_of(fields.reference);
+    spelling::spell(room, location, rest_of(fields));
+    Ok(())
 }
