@@ -3,6 +3,7 @@
 use Rattle.std.specs.Prelude.{ℕ, suc, ◌+◌, ◌-◌, ◌≤◌, ◌≡◌, refl, Bool, true, false, cond, ◌&&◌, List, [], ◌∷◌, map, length, drop, get_or, replicate, eqb}
 use Rattle.std.proofs.Common.{arith, ap, ◌∙◌, drop-drop, eqb-true}
 use Rattle.std.proofs.Math.Bool.{and-true, and-false}
+use lib.Pointwise.{pointwise}
 use Rattle.facts.specs.Tests.{both}
 use Rattle.facts.specs.Texts.{bytes}
 use Rattle.lines.specs.Lines.{value_after, value, is_within}
@@ -47,6 +48,12 @@ pub asking_one : (line : List ℕ) → length line ≡ 1 → is_asking line ≡ 
 asking_one [] h = absurd (omega arith)
 asking_one (x ∷ []) h = and-true (eqb x 84)
 asking_one (x ∷ y ∷ t) h = absurd (omega arith)
+
+-- the library's `==` of a line and the text `T` says it
+pub asking_as : (line : List ℕ) → pointwise eqb line (84 ∷ []) ≡ is_asking line
+asking_as [] = refl
+asking_as (x ∷ []) = refl
+asking_as (x ∷ y ∷ t) = refl
 
 pub asking_other : (line : List ℕ) → (length line ≡ 1 → ⊥) → is_asking line ≡ false
 asking_other [] n = refl

@@ -1,9 +1,11 @@
--- The laws of a line that starts with a text, byte by byte. Assumes nothing.
-use Rattle.std.specs.Prelude.{ℕ, ◌+◌, ◌≤◌, ◌<◌, ◌≡◌, Bool, true, false, List, length, drop, get_or}
-use Rattle.std.proofs.Common.{add-one}
+-- The laws of a line that starts with a text: byte by byte, and what the library says of a slice that starts with another. Assumes nothing.
+use Rattle.std.specs.Prelude.{ℕ, ◌+◌, ◌≤◌, ◌<◌, ◌≡◌, Bool, true, false, ◌&&◌, List, [], ◌∷◌, length, drop, get_or, eqb}
+use Rattle.std.specs.List.{starts_with as slice_starts_with}
+use Rattle.std.proofs.Common.{refl, sym, ap₂, add-one}
 use Rattle.std.proofs.Math.ListN.{drop_of_length-le}
 use Rattle.std.proofs.Math.Seq.{drop-cons}
-use borrow.Author.Tests.{eq-eqb, ne_eqb}
+use borrow.Author.Tests.{eq-eqb, eqb-true, ne_eqb}
+use Rattle.facts.specs.Tests.{same_truth}
 use Rattle.lines.specs.Starts.{starts_with}
 
 -- from a position of both on
@@ -28,3 +30,14 @@ module _ (line text : List ℕ) (i : ℕ) where
   unfolding starts_with
   starts_more h k e =
       rw (drop-cons text i 0 h, drop-cons line i 0 k, eq-eqb (get_or line i 0) (get_or text i 0) e, add-one)
+
+-- two bytes are the same in either order
+either_order : (a b : ℕ) → eqb b a ≡ eqb a b
+either_order a b = same_truth (λ e. eq-eqb a b (sym (eqb-true b a e))) (λ e. eq-eqb b a (sym (eqb-true a b e)))
+
+-- what the library says of a slice that starts with another is what is said of a line that starts with a text
+pub starts_as : (line text : List ℕ) → slice_starts_with eqb line text ≡ starts_with line text
+unfolding starts_with
+starts_as line [] = refl
+starts_as [] (b ∷ text) = refl
+starts_as (a ∷ line) (b ∷ text) = ap₂ ◌&&◌ (either_order a b) (starts_as line text)

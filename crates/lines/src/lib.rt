@@ -39,18 +39,9 @@ pub fn add(room: &mut [u8], len: usize, byte: u8) -> usize
 }
 
 // Whether a line starts with the bytes of a text.
+#[tactic(auto, using(crate::specs::StartsLaws::starts_as))]
 pub fn starts(line: &[u8], text: &[u8]) -> bool
     ensures { result ≡ starts_with line.now text.now }
 {
-    let mut i = 0;
-    while i < text.len() {
-        if line.len() <= i {
-            return false;
-        }
-        if line[i] != text[i] {
-            return false;
-        }
-        i += 1;
-    }
-    true
+    line.starts_with(text)
 }
