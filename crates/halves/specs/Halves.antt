@@ -1,10 +1,8 @@
 -- The two halves of a code (document 02, request 3, and the forms of document 01): what an account keeps of one. Assumes nothing.
-use Rattle.std.specs.Prelude.{ℕ, ◌+◌, ◌*◌, ◌/◌, ◌%◌, ◌^◌, Bool, cond, ◌&&◌, List, ◌++◌, eqb, ltb, take, drop}
+use Rattle.std.specs.Prelude.{ℕ, ◌+◌, ◌*◌, ◌/◌, ◌%◌, ◌^◌, Bool, cond, ◌&&◌, List, ◌++◌, eqb, ltb, take, drop, Option, Some, None}
 use Rattle.letters.specs.Letters.{letters, spelled_in, number_in}
 use Rattle.code.specs.Code.{reading, reading_numbers}
 use Rattle.halves.specs.declared.Halves.{Halves}
-use Rattle.halves.specs.declared.Code.{Code}
-use Rattle.halves.specs.declared.Code.TheVariants.{Read, Refused}
 
 -- A code by its two halves
 abbrev pub halves_by : ℕ → ℕ → Halves
@@ -35,13 +33,13 @@ abbrev pub cut_of : ℕ → ℕ → Halves
 cut_of location rest = halves_by (location / 32) (location % 32 * 32 ^ 9 + rest % 32 ^ 9)
 
 -- The code of two numbers of a text
-abbrev pub code_of : ℕ → ℕ → Code
-code_of location rest = cond (accepted location rest) (Read (cut_of location rest)) Refused
+abbrev pub code_of : ℕ → ℕ → Option Halves
+code_of location rest = cond (accepted location rest) (Some (cut_of location rest)) None
 
 -- Codes are compared by what was read
 abbrev pub same_code : Halves → Halves → Bool
 same_code a b = eqb a.high b.high && eqb a.low b.low
 
 -- What a text is to an account: a code by its halves, or one that reading refuses
-unfoldable pub code_in : List ℕ → Code
-code_in text = cond (readable text) (Read (halves_in text)) Refused
+unfoldable pub code_in : List ℕ → Option Halves
+code_in text = cond (readable text) (Some (halves_in text)) None

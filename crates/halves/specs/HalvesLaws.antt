@@ -1,6 +1,6 @@
 -- The laws of halves: they are the two numbers of a code cut at another letter, and a text that reading accepts has the halves of a
 -- code. Assumes nothing.
-use Rattle.std.specs.Prelude.{ℕ, ◌+◌, ◌*◌, ◌/◌, ◌%◌, ◌^◌, ◌<◌, ◌≡◌, Bool, cond, List, [], ◌∷◌, ◌++◌, map, eqb}
+use Rattle.std.specs.Prelude.{ℕ, ◌+◌, ◌*◌, ◌/◌, ◌%◌, ◌^◌, ◌<◌, ◌≡◌, Bool, cond, List, [], ◌∷◌, ◌++◌, map, eqb, Option, Some, None}
 use Rattle.std.proofs.Common.{arith, ap₂, ◌∙◌, subst, append_assoc, take_at, drop_at, eqb-true, lt-ltb}
 use Rattle.std.proofs.Math.Path.{refl, ap, sym}
 use Rattle.std.proofs.Math.Bool.{true, false}
@@ -24,8 +24,6 @@ use Rattle.spelling.specs.SpellingLaws.{
 use Rattle.code.specs.Code.{Told, tells_nothing, reading, reading_numbers}
 use Rattle.code.specs.ReadingLaws.{reading_letters}
 use Rattle.halves.specs.declared.Halves.{Halves}
-use Rattle.halves.specs.declared.Code.TheVariants.{Read, Refused}
-use Rattle.halves.specs.declared.Code.{Code}
 use Rattle.halves.specs.Halves.{halves_by, halves_in, spelled_halves, readable, accepted, is_code, cut_of, code_of, code_in}
 
 -- The last ten digits of a number that has no more, the first of them apart
@@ -95,8 +93,8 @@ module _ {text : List ℕ} (t : TwentyLetters text) where
 -- ---- what a text is to an account
 
 -- What it is where it spells this
-abbrev pub code_spelled : Numbers → Code
-code_spelled n = cond (eqb n.said.number 0) (code_of n.location n.rest) Refused
+abbrev pub code_spelled : Numbers → Option Halves
+code_spelled n = cond (eqb n.said.number 0) (code_of n.location n.rest) None
 
 pub code_spelled_lem : (text : List ℕ) → code_spelled (numbers_in text) ≡ code_in text
 unfolding code_in reading
@@ -128,13 +126,13 @@ readable_code text k =
         at n false k e = e
 
 -- What a code tells of its text
-abbrev is_read : Code → Bool
-is_read (Read halves) = true
-is_read Refused = false
+abbrev is_read : Option Halves → Bool
+is_read (Some halves) = true
+is_read None = false
 
-abbrev halves_read : Halves → Code → Halves
-halves_read other (Read halves) = halves
-halves_read other Refused = other
+abbrev halves_read : Halves → Option Halves → Halves
+halves_read other (Some halves) = halves
+halves_read other None = other
 
 module _ (text : List ℕ) where
   -- Whether it is read
@@ -142,20 +140,20 @@ module _ (text : List ℕ) where
   unfolding code_in
   code_readable = at (readable text)
     where
-      at : (b : Bool) → is_read (cond b (Read (halves_in text)) Refused) ≡ b
+      at : (b : Bool) → is_read (cond b (Some (halves_in text)) None) ≡ b
       at true = refl
       at false = refl
 
-  pub code_reads : readable text ≡ true → code_in text ≡ Read (halves_in text)
+  pub code_reads : readable text ≡ true → code_in text ≡ Some (halves_in text)
   unfolding code_in
   code_reads e = rw e
 
-  pub code_refused : code_in text ≡ Refused → readable text ≡ false
+  pub code_refused : code_in text ≡ None → readable text ≡ false
   code_refused e = sym code_readable ∙ ap is_read e
 
   -- and by which halves
-  pub code_read : {code : Halves} → code_in text ≡ Read code → (readable text ≡ true) × (halves_in text ≡ code)
+  pub code_read : {code : Halves} → code_in text ≡ Some code → (readable text ≡ true) × (halves_in text ≡ code)
   unfolding code_in
   code_read {code} e =
       let read : readable text ≡ true = sym code_readable ∙ ap is_read e in
-      (read, ap (λ (b : Bool). halves_read code (cond b (Read (halves_in text)) Refused)) (sym read) ∙ ap (halves_read code) e)
+      (read, ap (λ (b : Bool). halves_read code (cond b (Some (halves_in text)) None)) (sym read) ∙ ap (halves_read code) e)

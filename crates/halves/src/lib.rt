@@ -6,20 +6,11 @@
 ghost use Rattle.std.specs.Prelude.{◌≡◌};
 ghost use Rattle.halves.specs.Halves.{accepted, is_code, code_of, code_in};
 
-use spelling::Spelled;
-
 // The halves of a code: its first ten letters, and its last ten.
 #[derive(Clone, Copy)]
 pub struct Halves {
     pub high: u64,
     pub low: u64,
-}
-
-// What a text is to an account: a code by its halves, or one that reading refuses.
-#[derive(Drop)]
-pub enum Code {
-    Read(Halves),
-    Refused,
 }
 
 // One more than a half may be.
@@ -32,7 +23,7 @@ const NINE: u64 = 0x2000_0000_0000;
 fn accepts(location: u64, rest: u64) -> bool
     ensures { result ≡ accepted location rest }
 {
-    code::reading_number(reader::read_numbers(location, rest)) == 0
+    reader::read_numbers(location, rest).is_ok()
 }
 
 // Whether halves are those of a code that reading accepts.
@@ -48,27 +39,21 @@ pub fn is_code(halves: Halves) -> bool
     accepts(halves.high * 32 + halves.low / NINE, halves.low % NINE)
 }
 
-// The code of two numbers of a text: the location's last letter goes to the low half.
-fn code_of(location: u64, rest: u64) -> Code
+// The code of two numbers of a text, where reading accepts them: the location's last letter goes to
+// the low half.
+fn code_of(location: u64, rest: u64) -> Option<Halves>
     ensures { result ≡ code_of location rest }
 {
-    if accepts(location, rest) {
-        return Code::Read(Halves {
-            high: location / 32,
-            low: location % 32 * NINE + rest % NINE,
-        });
-    }
-    Code::Refused
+    accepts(location, rest).then_some(Halves {
+        high: location / 32,
+        low: location % 32 * NINE + rest % NINE,
+    })
 }
 
-// The code of a text of any length and any bytes.
-pub fn code_in(text: &[u8]) -> Code
+// The code of a text of any length and any bytes: its halves, or none where reading refuses it.
+pub fn code_in(text: &[u8]) -> Option<Halves>
     ensures { result ≡ code_in text.now }
 {
-    let numbers = spelling::numbers_in(text);
-    match numbers {
-        Spelled::Numbers(location, rest) => code_of(location, rest),
-        Spelled::Length => Code::Refused,
-        Spelled::Letter(_) => Code::Refused,
-    }
+    let (location, rest) = spelling::numbers_in(text).ok()?;
+    code_of(location, rest)
 }

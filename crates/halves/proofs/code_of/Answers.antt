@@ -1,9 +1,16 @@
 -- `halves::code_of` meets its contract, by whether reading accepts. Assumes nothing.
-use mathlib.Core.Path.{sym, ◌∙◌}
+use Rattle.std.specs.Prelude.{◌≡◌, refl, Bool, true, false, cond, Some, None}
+use Rattle.std.specs.Bool.{then_some}
+use Rattle.std.proofs.Common.{ap, ◌∙◌}
+use Rattle.halves.specs.declared.Halves.{Halves}
+use Rattle.halves.specs.Halves.{cut_of}
 use Rattle.halves.proofs.code_of.Goals as goal
 
-pub returns-then-accepts : goal.returns-then-accepts
-returns-then-accepts c = rw (sym c.accepts.ensures ∙ c.if-accepts.true)
+taken : (accepted : Bool) (cut : Halves) → then_some accepted cut ≡ cond accepted (Some cut) None
+taken true cut = refl
+taken false cut = refl
 
 pub returns : goal.returns
-returns c = rw (sym c.accepts.ensures ∙ c.if-accepts.false)
+returns c =
+    let cut = cut_of c.args.location c.args.rest in
+    c.then_some.ensures ∙ ap (λ (b : Bool). then_some b cut) c.accepts.ensures ∙ taken _ cut
