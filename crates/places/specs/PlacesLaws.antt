@@ -1,9 +1,12 @@
--- The laws of the lowest place that passes a test and of a loop that looks for it; of how many places are active and of a loop that
--- counts them. Assumes nothing.
+-- The laws of the lowest place that passes a test and of what looks for it, a loop or the library; of how many places are active and of
+-- what the library counts. Assumes nothing.
 use Prim.Native.Nat.{ℕ, zero, suc, ◌+◌, ◌≤◌, ◌<◌}
-use Rattle.std.proofs.Common.{eq-or-lt_of_le, add-one, subst, ◌∙◌, inl, inr, true≢false, get_or-set_same, get_or-set_other}
+use Rattle.std.proofs.Common.{eq-or-lt_of_le, add-one, subst, ◌∙◌, inl, inr, true≢false, get_or-set_same, get_or-set_other, ltb-false, nat_lt, take_all}
+use Rattle.std.proofs.lemmas.List.Sums.{position_or_len_is, count_by_more_yes, count_by_more_no}
+use Rattle.std.specs.List.{position_or_len}
 use native.Mathlib.Omega.{arith}
-use Rattle.std.specs.Prelude.{◌≡◌, ◌⊎◌, ◌≢◌, Bool, List, eqb, length, get_or, set}
+use Rattle.std.specs.Prelude.{◌≡◌, ◌⊎◌, ◌≢◌, Bool, List, eqb, length, get_or, set, Option, Some, None, position, unwrap_or, count_by, take}
+use Rattle.std.specs.Option.{MatchOption}
 use Rattle.std.proofs.Math.Path.{refl, ap, sym}
 use Rattle.std.proofs.Math.Bool.{true, false, cond, not}
 use Rattle.facts.specs.Numbers.{either_way, not_above}
@@ -100,6 +103,32 @@ module _ {test : ℕ → Bool} where
       at (inl k) = omega (arith, k, h, lowest_most test)
       at (inr k) =
           absurd (true≢false (sym (lowest_passes test (omega (arith, p.within))) ∙ p.none (lowest_place test) k))
+
+-- What a search of the places answers, with 256 in place of none
+pub searched : (test : ℕ → Bool) (r : Option ℕ)
+    → MatchOption r ((k : ℕ) → 0 ≤ k → k < places → test k ≡ false)
+    (λ i. (0 ≤ i) × (i < places) × (test i ≡ true) × ((k : ℕ) → 0 ≤ k → k < i → test k ≡ false))
+    → unwrap_or r places ≡ lowest_place test
+searched test None none = none_finish (record { within = omega arith; none = λ k h. none k (omega arith) h }) (omega arith)
+searched test (Some i) (s, h, e, before) = none_found (record { within = omega arith; none = λ k l. before k (omega arith) l }) h e
+
+-- What the library's search of a list of 256 numbers answers, with 256 in place of none
+pub position_lowest : (test : ℕ → Bool) (xs : List ℕ) → length xs ≡ places
+    → unwrap_or (position test xs) places ≡ lowest_place (λ i. test (get_or xs i 0))
+position_lowest test xs sized = at (nat_lt (position_or_len test xs) (length xs)) refl
+  where
+    here : ℕ → Bool
+    here i = test (get_or xs i 0)
+
+    same : position_or_len test xs ≡ lowest_place here
+    same =
+        position_or_len_is test xs (lowest_place here) 0 (omega (arith, lowest_most here, sized)) (lowest_before here)
+        (λ h. lowest_passes here (omega (arith, h, sized)))
+
+    at : (b : Bool) → nat_lt (position_or_len test xs) (length xs) ≡ b
+        → unwrap_or (cond b (Some (position_or_len test xs)) None) places ≡ lowest_place here
+    at true e = same
+    at false e = omega (arith, same, sized, ltb-false (position_or_len test xs) (length xs) e, lowest_most here)
 
 -- Two tests of which the second passes nowhere that the first does not: below the first's lowest place none passes the second
 none_below : (test other : ℕ → Bool) → ((k : ℕ) → test k ≡ false → other k ≡ false) → NoneBelow other (lowest_place test)
@@ -222,34 +251,17 @@ module _ (active : List ℕ) where
         (count_but (active_on (set active i 0)) (active_on active) i places h (ap not (set_here 0)) (ap not on)
         (λ k n. ap not (sym (set_other 0 k n))))
 
--- A loop that has counted the places below i
-pub record Counted (active : List ℕ) (i count : ℕ) : Type 0 where
-  pub within : i ≤ places
-  pub most : count ≤ i
-  pub sum : count ≡ count_below (active_on active) i
-
-pub counted_begin : {active : List ℕ} → Counted active 0 0
-unfolding count_below
-counted_begin = record { within = omega arith; most = omega arith; sum = refl }
-
-module _ {active : List ℕ} {i count : ℕ} (p : Counted active i count) where
-  -- A place more, by whether it is free
-  counted_next : i < places → {next : ℕ} → next ≡ count_below (active_on active) (suc i) → Counted active (i + 1) next
-  counted_next h {next} e = record {
-    within = omega arith;
-    most = omega (arith, e, count_most (active_on active) (suc i));
-    sum = e ∙ ap (count_below (active_on active)) (sym (add-one i));
-  }
-
-  pub counted_active : i < places → is_free active i ≡ false → Counted active (i + 1) (count + 1)
+-- What the library counts in a list of 256 numbers
+module _ (test : ℕ → Bool) (xs : List ℕ) where
+  count_first : (n : ℕ) → n ≤ length xs → count_by test (take n xs) ≡ count_below (λ i. test (get_or xs i 0)) n
   unfolding count_below
-  counted_active h on = counted_next h (add-one count ∙ ap suc p.sum ∙ sym (rw on))
+  count_first zero h = refl
+  count_first (suc n) h = at (test (get_or xs n 0)) refl (count_first n (omega arith))
+    where
+      at : (b : Bool) → test (get_or xs n 0) ≡ b → count_by test (take n xs) ≡ count_below (λ i. test (get_or xs i 0)) n
+          → count_by test (take (suc n) xs) ≡ cond b (suc (count_below (λ i. test (get_or xs i 0)) n)) (count_below (λ i. test (get_or xs i 0)) n)
+      at true e k = ap (λ (m : ℕ). count_by test (take m xs)) (sym (add-one n)) ∙ count_by_more_yes test xs n 0 (omega arith) e ∙ omega (arith, k)
+      at false e k = ap (λ (m : ℕ). count_by test (take m xs)) (sym (add-one n)) ∙ count_by_more_no test xs n 0 (omega arith) e ∙ k
 
-  pub counted_free : i < places → is_free active i ≡ true → Counted active (i + 1) count
-  unfolding count_below
-  counted_free h free = counted_next h (p.sum ∙ sym (rw free))
-
-  -- It ends with all of them
-  pub counted_end : places ≤ i → count ≡ count_active active
-  unfolding count_active
-  counted_end h = p.sum ∙ ap (count_below (active_on active)) (omega (arith, h, p.within))
+  pub count_places : length xs ≡ places → count_by test xs ≡ count_below (λ i. test (get_or xs i 0)) places
+  count_places sized = ap (count_by test) (sym (take_all places xs (omega (arith, sized)))) ∙ count_first places (omega (arith, sized))

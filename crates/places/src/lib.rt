@@ -1,5 +1,6 @@
 // The places of an account: 256 of activity, with the halves of a code each. Searched from place 0 up;
-// where none is found the answer is 256. Counted, for the total.
+// where none is found the answer is 256, and no Option: so `lowest_place` answers, of which theorems of
+// `index` and `change` speak. Counted, for the total.
 #![tactic(auto)]
 
 ghost use Rattle.std.specs.Prelude.{◌≡◌, not, ◌&&◌, eqb};
@@ -14,68 +15,43 @@ pub const PLACES: usize = 256;
 pub fn free_place(active: &[u64; PLACES]) -> usize
     ensures { result ≡ lowest_place (is_free active.now) }
 {
-    let mut free = 0;
-    while free < PLACES {
-        if active[free] == 0 {
-            return free;
-        }
-        free += 1;
-    }
-    free
+    active.iter().position(|a| *a == 0).unwrap_or(PLACES)
 }
 
 // The lowest place whose low half is this one, whatever else it holds.
 fn low_place(low: &[u64; PLACES], half: u64) -> usize
     ensures { result ≡ lowest_place (has_low low.now half) }
 {
-    let mut i = 0;
-    while i < PLACES {
-        if low[i] == half {
-            return i;
-        }
-        i += 1;
-    }
-    i
+    low.iter().position(|l| *l == half).unwrap_or(PLACES)
 }
 
 // Whether a place of this activity and these halves has a code active.
 pub fn has(active: u64, high: u64, low: u64, code: Halves) -> bool
     ensures { result ≡ (not (eqb active 0) && (eqb high code.high && eqb low code.low)) }
 {
-    if active == 0 {
-        return false;
-    }
-    if high != code.high {
-        return false;
-    }
-    low == code.low
+    active != 0 && high == code.high && low == code.low
 }
 
 // The lowest place at which a code is active, looked for place by place.
-fn full_search<'a>(
-    high: &'a [u64; PLACES],
-    low: &'a [u64; PLACES],
-    active: &'a [u64; PLACES],
+fn full_search(
+    high: &[u64; PLACES],
+    low: &[u64; PLACES],
+    active: &[u64; PLACES],
     code: Halves,
 ) -> usize
     ensures { result ≡ lowest_place (holds high.now low.now active.now code) }
 {
-    let mut i = 0;
-    while i < PLACES {
-        if has(active[i], high[i], low[i], code) {
-            return i;
-        }
-        i += 1;
-    }
-    i
+    (0..PLACES)
+        .find(|i| has(active[*i], high[*i], low[*i], code))
+        .unwrap_or(PLACES)
 }
 
 // The lowest place at which a code is active. Few places have the same low half, so that one comparison a
 // place nearly always decides; a free place may hold anything, and then all is looked at.
-pub fn code_place<'a>(
-    high: &'a [u64; PLACES],
-    low: &'a [u64; PLACES],
-    active: &'a [u64; PLACES],
+pub fn code_place(
+    high: &[u64; PLACES],
+    low: &[u64; PLACES],
+    active: &[u64; PLACES],
     code: Halves,
 ) -> usize
     ensures { result ≡ lowest_place (holds high.now low.now active.now code) }
@@ -94,13 +70,5 @@ pub fn code_place<'a>(
 pub fn count_active(active: &[u64; PLACES]) -> u64
     ensures { result ≡ count_active active.now }
 {
-    let mut count = 0;
-    let mut i = 0;
-    while i < PLACES {
-        if active[i] != 0 {
-            count += 1;
-        }
-        i += 1;
-    }
-    count
+    active.iter().filter(|a| **a != 0).count() as u64
 }

@@ -1,20 +1,14 @@
--- `places::free_place` meets its contract: no place below `free` is free. Assumes nothing.
-use borrow.Author.Rules.{rules}
-use borrow.Author.Tests.{eq-eqb, ne_eqb}
-use lib.ListN.{get_or}
-use Rattle.places.specs.PlacesLaws.{none_begin, none_again, none_found, none_finish}
+-- `places::free_place` meets its contract: the library's search finds the lowest free place. Assumes nothing.
+use Rattle.std.proofs.Common.{rules, tests, ◌≡◌, eqb, Bool, ℕ, position, ap, ◌∙◌, unwrap_or, Option}
+use Rattle.std.proofs.lemmas.Iterator.{YieldsList-from_slice}
+use Rattle.std.proofs.lemmas.Iterator.Search.{position_from_yields_List}
+use Rattle.places.specs.Places.{places}
+use Rattle.places.specs.PlacesLaws.{position_lowest}
 use Rattle.places.proofs.free_place.Goals as goal
 
-pub loop-free-init : goal.loop-free-init
-loop-free-init c = none_begin
-
-pub returns-then-active-free-eq0 : goal.returns-then-active-free-eq0
-returns-then-active-free-eq0 c =
-    none_found c.loop-free.invariant (search rules) (eq-eqb (get_or c.args.active.now c.loop-free.free 0) 0 c.if-active-free-eq0.true)
-
-pub loop-free-preserved : goal.loop-free-preserved
-loop-free-preserved c =
-    none_again c.loop-free.invariant (search rules) (ne_eqb (get_or c.args.active.now c.loop-free.free 0) 0 c.if-active-free-eq0.false)
-
 pub returns : goal.returns
-returns c = none_finish c.loop-free.invariant (search rules)
+returns c =
+    let free : ℕ → Bool = λ a. eqb a 0 in
+    let found : c.position.result ≡ position free c.args.active.now =
+    position_from_yields_List free _ _ _ c.position.ensures.ran (YieldsList-from_slice c.args.active.now cc) (λ x b q k. search (rules, tests)) in
+    c.unwrap_or.ensures ∙ ap (λ (r : Option ℕ). unwrap_or r places) found ∙ position_lowest free c.args.active.now c.told-active

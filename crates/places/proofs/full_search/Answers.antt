@@ -1,19 +1,13 @@
--- `places::full_search` meets its contract: the code is active at no place below `i`. Assumes nothing.
-use mathlib.Core.Path.{sym, ◌∙◌}
-use borrow.Author.Rules.{rules}
-use Rattle.places.specs.PlacesLaws.{none_begin, none_again, none_found, none_finish}
+-- `places::full_search` meets its contract: the search among the numbers of the places finds the lowest that holds the code. Assumes nothing.
+use Rattle.std.proofs.Common.{rules, tests, ◌≡◌, ℕ, Bool, true, false, ◌∙◌}
+use Rattle.std.proofs.lemmas.Iterator.{first_from_Range}
+use Rattle.places.specs.Places.{holds}
+use Rattle.places.specs.PlacesLaws.{searched}
 use Rattle.places.proofs.full_search.Goals as goal
 
-pub loop-i-init : goal.loop-i-init
-loop-i-init c = none_begin
-
-pub returns-then-has : goal.returns-then-has
-returns-then-has c =
-    none_found c.loop-i.invariant (search rules) (sym c.has.ensures ∙ c.if-has.true)
-
-pub loop-i-preserved : goal.loop-i-preserved
-loop-i-preserved c =
-    none_again c.loop-i.invariant (search rules) (sym c.has.ensures ∙ c.if-has.false)
-
 pub returns : goal.returns
-returns c = none_finish c.loop-i.invariant (search rules)
+returns c =
+    let test : ℕ → Bool = holds c.args.high.now c.args.low.now c.args.active.now c.args.code in
+    c.unwrap_or.ensures
+    ∙ searched test c.find.result
+    (first_from_Range _ _ _ _ (λ (i : ℕ). test i ≡ true) (λ (i : ℕ). test i ≡ false) c.find.ensures.ran (λ x q k. search (rules, tests)) (λ x q k. search (rules, tests)))

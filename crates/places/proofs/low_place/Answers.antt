@@ -1,20 +1,14 @@
--- `places::low_place` meets its contract: no place below `i` has the half. Assumes nothing.
-use borrow.Author.Rules.{rules}
-use borrow.Author.Tests.{eq-eqb, ne_eqb}
-use lib.ListN.{get_or}
-use Rattle.places.specs.PlacesLaws.{none_begin, none_again, none_found, none_finish}
+-- `places::low_place` meets its contract: the library's search finds the lowest place of the half. Assumes nothing.
+use Rattle.std.proofs.Common.{rules, tests, ◌≡◌, eqb, Bool, ℕ, position, ap, ◌∙◌, unwrap_or, Option}
+use Rattle.std.proofs.lemmas.Iterator.{YieldsList-from_slice}
+use Rattle.std.proofs.lemmas.Iterator.Search.{position_from_yields_List}
+use Rattle.places.specs.Places.{places}
+use Rattle.places.specs.PlacesLaws.{position_lowest}
 use Rattle.places.proofs.low_place.Goals as goal
 
-pub loop-i-init : goal.loop-i-init
-loop-i-init c = none_begin
-
-pub returns-then-low-i : goal.returns-then-low-i
-returns-then-low-i c =
-    none_found c.loop-i.invariant (search rules) (eq-eqb (get_or c.args.low.now c.loop-i.i 0) c.args.half c.if-low-i.true)
-
-pub loop-i-preserved : goal.loop-i-preserved
-loop-i-preserved c =
-    none_again c.loop-i.invariant (search rules) (ne_eqb (get_or c.args.low.now c.loop-i.i 0) c.args.half c.if-low-i.false)
-
 pub returns : goal.returns
-returns c = none_finish c.loop-i.invariant (search rules)
+returns c =
+    let has : ℕ → Bool = λ l. eqb l c.args.half in
+    let found : c.position.result ≡ position has c.args.low.now =
+    position_from_yields_List has _ _ _ c.position.ensures.ran (YieldsList-from_slice c.args.low.now cc) (λ x b q k. search (rules, tests)) in
+    c.unwrap_or.ensures ∙ ap (λ (r : Option ℕ). unwrap_or r places) found ∙ position_lowest has c.args.low.now c.told-low
