@@ -37,12 +37,10 @@ fn scan(numbers: &[u32], a: Point, b: Point, from: usize, to: usize) -> usize
     ensures lower_bound { (from ≤ result) × (result ≤ to) }
     ensures skipped { Skipped numbers.now (edge a b) from result }
 {
-    let mut j = from;
-    while j < to {
+    for j in from..to {
         if lats_overlap(numbers, a, b, j) && lons_overlap(numbers, a, b, j) {
             return j;
         }
-        j += 1;
     }
     to
 }
@@ -67,10 +65,11 @@ fn scan_row(numbers: &[u32], extents: &[u32], a: Point, b: Point, from: usize, t
 pub(crate) fn ahead(near: &[usize], from: usize) -> usize
     ensures { result ≡ max from (get_or near.now (from / 8) 0) }
 {
-    if from / ROW < near.len() && from < near[from / ROW] {
-        return near[from / ROW];
+    if let Some(start) = near.get(from / ROW) {
+        from.max(*start)
+    } else {
+        from
     }
-    from
 }
 
 // The first edge from a place on whose extents are not apart from those of the edge from place i, row by row.

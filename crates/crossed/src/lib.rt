@@ -31,6 +31,5 @@ pub fn first_pair(numbers: &[u32]) -> Option<(usize, usize)>
     if run::FEW < count && count <= 1024 {
         return pair_of_many(numbers);
     }
-    let mut none = [0usize; 0];
-    search::search(numbers, &numbers[0..0], &mut none)
+    search::search(numbers, &[], &mut [])
 }

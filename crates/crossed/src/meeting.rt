@@ -50,13 +50,10 @@ fn has_length(numbers: &[u32], i: usize) -> bool
 fn start_from(numbers: &[u32], from: usize, none: usize) -> usize
     ensures { result ≡ start_from numbers.now from none }
 {
-    let count = numbers.len() / 2;
-    let mut i = from;
-    while i < count {
+    for i in from..numbers.len() / 2 {
         if has_length(numbers, i) {
             return i;
         }
-        i += 1;
     }
     none
 }

@@ -14,6 +14,13 @@ use ground::{Lat, Lon, Point};
 // How many edges a row has.
 pub(crate) const ROW: usize = 8;
 
+// How many rows there are.
+fn row_count(numbers: &[u32]) -> usize
+    ensures { result ≡ rows_of numbers.now }
+{
+    (numbers.len() / 2).div_ceil(ROW)
+}
+
 // The lesser latitude and the lesser longitude of two points.
 fn low(a: Point, b: Point) -> Point
     ensures { result ≡ lowest a b }
@@ -40,8 +47,7 @@ pub(crate) fn row_end(count: usize, row: usize) -> usize
     requires count_bound { count < 9223372036854775808 }
     ensures { result ≡ min count (8 * row + 8) }
 {
-    let end = ROW * row + ROW;
-    if count < end { count } else { end }
+    count.min(ROW * row + ROW)
 }
 
 // Lists the extents of a row.
@@ -55,11 +61,9 @@ fn list_row(numbers: &[u32], extents: &mut [u32], row: usize)
     let to = row_end(numbers.len() / 2, row);
     let mut south_west = corner(numbers, ROW * row);
     let mut north_east = corner(numbers, ROW * row);
-    let mut i = ROW * row;
-    while i < to {
+    for i in ROW * row..to {
         south_west = low(south_west, end_of(numbers, i));
         north_east = high(north_east, end_of(numbers, i));
-        i += 1;
     }
     put_edge(extents, row, south_west, north_east);
 }
@@ -69,11 +73,8 @@ pub(crate) fn list_rows(numbers: &[u32], extents: &mut [u32])
     requires { rows_of numbers.now ≤ length extents.old / 4 }
     ensures { RowsTo numbers.now extents.new (rows_of numbers.now) }
 {
-    let count = numbers.len() / 2;
-    let mut row = 0;
-    while ROW * row < count {
+    for row in 0..row_count(numbers) {
         list_row(numbers, extents, row);
-        row += 1;
     }
 }
 
@@ -106,11 +107,9 @@ fn list_near(extents: &[u32], rows: usize, own: usize, near: &mut [usize])
     ensures near_len_unchanged { length near.new ≡ length near.old }
     ensures near { Near extents.now own rows near.new own }
 {
-    let mut row = rows;
     let mut first = ROW * rows;
-    near[row] = first;
-    while own < row {
-        row -= 1;
+    near[rows] = first;
+    for row in (own..rows).rev() {
         if !row_apart(
             extents,
             corner(extents, 2 * own),
@@ -132,6 +131,6 @@ pub(crate) fn renew(numbers: &[u32], extents: &[u32], i: usize, near: &mut [usiz
     ensures near_row { NearRow numbers.now near.new (i / 8) }
 {
     if i % ROW == 0 && 0 < near.len() {
-        list_near(extents, (numbers.len() / 2 + 7) / ROW, i / ROW, near);
+        list_near(extents, row_count(numbers), i / ROW, near);
     }
 }

@@ -35,12 +35,10 @@ fn course_end(numbers: &[u32], from: usize, course: Course) -> usize
     ensures { Going numbers.now course from result }
 {
     let count = numbers.len() / 2;
-    let mut i = from;
-    while i < count {
+    for i in from..count {
         if !goes(corner(numbers, i), end_of(numbers, i), course) {
             return i;
         }
-        i += 1;
     }
     count
 }
@@ -72,7 +70,7 @@ fn run_end(numbers: &[u32], i: usize) -> usize
     let b = end_of(numbers, i);
     let lat_end = course_end(numbers, i, by_lat(a, b));
     let lon_end = course_end(numbers, i, by_lon(a, b));
-    if lat_end < lon_end { lon_end } else { lat_end }
+    lat_end.max(lon_end)
 }
 
 // Whether the way from a over b to c keeps to a course.

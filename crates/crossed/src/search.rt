@@ -9,7 +9,8 @@ use crate::meeting::meeting;
 use crate::rows::renew;
 use crate::run::run_on;
 
-// The first pair of edges that meets; rooms for rows may be empty.
+// The first pair of edges that meets; rooms for rows may be empty. The edges are counted by hand: the two
+// loops are left by a label with the pair found (document 01), and a `for` is left with no value.
 pub(crate) fn search(numbers: &[u32], extents: &[u32], near: &mut [usize]) -> Option<(usize, usize)>
     requires { Rooms numbers.now extents.now (length near.old) }
     ensures { result ≡ pair_of (corners_of numbers.now) }

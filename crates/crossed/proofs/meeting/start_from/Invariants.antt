@@ -1,12 +1,7 @@
 -- `crossed::meeting::start_from` meets its contract: no edge before the loop's place has a length. Assumes nothing.
-use Prim.Native.Nat.{◌-◌, ◌/◌}
 use mathlib.Core.Path.{◌≡◌}
-use lib.ListN.{length}
 use Rattle.crossed.specs.Meeting.{start_from}
 use Rattle.crossed.proofs.meeting.start_from.Given as goal
 
 abbrev pub invariant-loop-i : goal.invariant-loop-i
 invariant-loop-i l = start_from l.numbers l.from l.none ≡ start_from l.numbers l.i l.none
-
-abbrev pub decreases-loop-i : goal.decreases-loop-i
-decreases-loop-i l = length l.numbers / 2 - l.i

@@ -5,6 +5,3 @@ use Rattle.crossed.proofs.rows.list_near.Given as goal
 
 abbrev pub invariant-loop-row : goal.invariant-loop-row
 invariant-loop-row l = Nearing l.extents l.own l.rows (length l.initial.near) l.near l.row l.first
-
-abbrev pub decreases-loop-row : goal.decreases-loop-row
-decreases-loop-row l = l.row

@@ -9,12 +9,16 @@ use Rattle.crossed.proofs.rows.renew.Goals.{else-i-eq0-via-then-i-eq0+else-near-
 pub list_near-requires : goal.list_near-requires
 list_near-requires c =
     let held = rooms_held c.requires.rooms c.if-near-gt0.true in
-    record { rows_in_bounds = held.0; rows_in_bounds_2 = held.1.0; own_le_rows = omega (arith, c.requires.i_in_bounds) }
+    record {
+      rows_in_bounds = omega (arith, held.0, c.row_count.ensures);
+      rows_in_bounds_2 = omega (arith, held.1.0, c.row_count.ensures);
+      own_le_rows = omega (arith, c.requires.i_in_bounds, c.row_count.ensures);
+    }
 
 pub returns-then-near-gt0 : goal.returns-then-near-gt0
 returns-then-near-gt0 c =
     let held = rooms_held c.requires.rooms c.if-near-gt0.true in
-    record { near_len_unchanged = c.list_near.ensures.near_len_unchanged; near_row = near_row held.1.1 c.list_near.ensures.near }
+    record { near_len_unchanged = c.list_near.ensures.near_len_unchanged; near_row = near_row held.1.1 (rw c.row_count.ensures at c.list_near.ensures.near) }
 
 pub returns-else-i-eq0 : goal.returns-else-i-eq0
 returns-else-i-eq0 c =

@@ -1,9 +1,26 @@
--- `crossed::run::run_end` meets its contract: the edges on one course, or those on the other. Assumes nothing.
-use Rattle.crossed.specs.Runs.{run_free}
+-- `crossed::run::run_end` meets its contract: what is free up to each of two ends is free up to the later. Assumes nothing.
+use Prim.Native.Nat.{ℕ, ◌≤◌, ◌<◌, max}
+use native.Mathlib.Omega.{arith}
+use mathlib.Core.Path.{◌≡◌, sym, subst}
+use mathlib.Core.List.{List}
+use Rattle.std.specs.Prelude.{◌⊎◌}
+use Rattle.std.proofs.Common.{inl, inr}
+use Rattle.facts.specs.Numbers.{either_way}
+use Rattle.crossed.specs.Runs.{Free, run_free}
 use Rattle.crossed.proofs.run.run_end.Goals as goal
 
-pub returns-then-lat_end-lon_end : goal.returns-then-lat_end-lon_end
-returns-then-lat_end-lon_end c = run_free _ _ _ _ c.course_end-lon_end.ensures
+free_later : {numbers : List ℕ} {i a b : ℕ} → Free numbers i a → Free numbers i b → Free numbers i (max a b)
+free_later {numbers} {i} {a} {b} f g = at (either_way a b)
+  where
+    at : (a ≤ b) ⊎ (b < a) → Free numbers i (max a b)
+    at (inl h) =
+        let same : b ≡ max a b = omega arith in
+        subst (Free numbers i) same g
+    at (inr h) =
+        let same : a ≡ max a b = omega arith in
+        subst (Free numbers i) same f
 
-pub returns-else-lat_end-lon_end : goal.returns-else-lat_end-lon_end
-returns-else-lat_end-lon_end c = run_free _ _ _ _ c.course_end-lat_end.ensures
+pub returns : goal.returns
+returns c =
+    subst (Free c.args.numbers.now c.args.i) (sym c.max.ensures)
+    (free_later (run_free _ _ _ _ c.course_end-lat_end.ensures) (run_free _ _ _ _ c.course_end-lon_end.ensures))
