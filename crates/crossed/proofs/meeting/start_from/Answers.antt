@@ -1,13 +1,10 @@
 -- `crossed::meeting::start_from` meets its contract: no edge before the loop's place has a length. Assumes nothing.
-use mathlib.Core.Path.{refl, sym, ◌∙◌}
+use mathlib.Core.Path.{sym, ◌∙◌}
 use borrow.Author.Tests.{not-true, not-false}
 use Rattle.edge.specs.Edge.{no_length}
 use Rattle.boundary.specs.Listed.{edge_from}
 use Rattle.crossed.specs.MeetingLaws.{start_here, start_later, start_none}
 use Rattle.crossed.proofs.meeting.start_from.Goals as goal
-
-pub loop-i-init : goal.loop-i-init
-loop-i-init c = refl
 
 pub returns-then-has_length : goal.returns-then-has_length
 returns-then-has_length c =

@@ -1,17 +1,12 @@
 -- `crossed::rows::list_near` meets its contract: all is told of the rows behind the loop, from the last back. Assumes nothing.
-use Prim.Native.Nat.{◌-◌, ◌*◌}
+use Prim.Native.Nat.{◌-◌}
 use mathlib.Core.Path.{◌≡◌, sym, ap, ap₂, ◌∙◌}
-use lib.ListN.{length-set}
 use Rattle.edge.specs.Edge.{Edge, edge}
 use Rattle.boundary.specs.Listed.{edge_in}
 use Rattle.crossed.specs.Rows.{row_apart}
-use Rattle.crossed.specs.NearRows.{nearing_begin, nearing_there, nearing_later, nearing_end}
+use Rattle.crossed.specs.NearRows.{nearing_there, nearing_later}
 use Rattle.crossed.proofs.rows.list_near.Goals as goal
 use Rattle.crossed.proofs.rows.list_near.Goals.{then-not-row_apart, else-not-row_apart}
-
-pub loop-row-init : goal.loop-row-init
-loop-row-init c =
-    nearing_begin c.args.near.now c.requires.rows_in_bounds_2 c.requires.own_le_rows
 
 pub loop-row-preserved : goal.loop-row-preserved
 loop-row-preserved c =
@@ -23,11 +18,3 @@ loop-row-preserved c =
       | then-not-row_apart w ↦ nearing_there c.loop-row.invariant less w.first-is
       | else-not-row_apart w ↦ nearing_later c.loop-row.invariant less w.first-is (sym told ∙ w.if-not-row_apart.false)
     ]
-
-pub shape_of-near : goal.shape_of-near
-shape_of-near c =
-    (c.loop-row.invariant.long ∙ length-set c.args.near.now c.args.rows (8 * c.args.rows))
-
-pub returns : goal.returns
-returns c =
-    record { near_len_unchanged = (c.loop-row.invariant.long ∙ length-set c.args.near.now c.args.rows (8 * c.args.rows)); near = nearing_end c.loop-row.invariant c.loop-row-test.false }

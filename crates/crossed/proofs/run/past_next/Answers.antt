@@ -6,12 +6,9 @@ use mathlib.Core.Bool.{true, ◌&&◌}
 use lib.ListN.{length}
 use Rattle.ground.specs.declared.Point.{Point}
 use Rattle.crossed.specs.declared.run.Course.{Course}
-use Rattle.crossed.specs.Runs.{toward, Free, one_free, two_free}
+use Rattle.crossed.specs.Runs.{toward, Free, two_free}
 use Rattle.crossed.proofs.run.past_next.Goals as goal
 use Rattle.crossed.proofs.run.past_next.Goals.{then-keeps-via-then-keeps, then-keeps-via-else-keeps+then-keeps-2}
-
-pub returns-then-next-numbers : goal.returns-then-next-numbers
-returns-then-next-numbers c = (omega arith, one_free _ _ c.requires)
 
 pub returns-then-keeps : goal.returns-then-keeps
 returns-then-keeps c =
@@ -32,7 +29,3 @@ returns-then-keeps c =
         | then-keeps-via-else-keeps+then-keeps-2 w ↦ two w.by_lon.result (sym w.keeps-else-keeps.ensures ∙ w.if-keeps-2.true)
       ],
     )
-
-pub returns : goal.returns
-returns c =
-    (omega arith, one_free _ _ c.requires)
