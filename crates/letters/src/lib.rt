@@ -12,14 +12,8 @@ const LETTERS: [u8; 32] = *b"0123456789ABCDEFGHJKLMNPQRTUVWXY";
 pub fn value_in(alphabet: &[u8], byte: u8) -> usize
     ensures { result ≡ value_in alphabet.now byte }
 {
-    let mut i = 0;
-    while i < alphabet.len() {
-        if alphabet[i] == byte {
-            return i;
-        }
-        i += 1;
-    }
-    i
+    let place = alphabet.iter().position(|letter| *letter == byte);
+    place.unwrap_or(alphabet.len())
 }
 
 // The value of a letter, 0 to 31, and 32 for a byte that is none.
@@ -33,14 +27,8 @@ pub fn value(byte: u8) -> u32
 pub fn first_other(text: &[u8]) -> usize
     ensures { result ≡ first_other letters text.now }
 {
-    let mut i = 0;
-    while i < text.len() {
-        if value(text[i]) == 32 {
-            return i;
-        }
-        i += 1;
-    }
-    i
+    let place = text.iter().position(|byte| value(*byte) == 32);
+    place.unwrap_or(text.len())
 }
 
 // Spells a number in the whole of a room, a letter for each five bits, high first; bits for which
@@ -48,10 +36,9 @@ pub fn first_other(text: &[u8]) -> usize
 pub fn spell(room: &mut [u8], number: u64)
     ensures { room.new ≡ spelled_in letters (length room.old) number }
 {
-    let mut i = room.len();
     let mut rest = number;
-    while 0 < i {
-        i -= 1;
+    // By index: a proof knows nothing of what an adapter of `iter_mut` wrote.
+    for i in (0..room.len()).rev() {
         room[i] = LETTERS[(rest % 32) as usize];
         rest /= 32;
     }
@@ -62,10 +49,8 @@ pub fn number(text: &[u8]) -> u64
     ensures { result ≡ number_in letters text.now % 2 ^ 60 }
 {
     let mut sum = 0u64;
-    let mut i = 0;
-    while i < text.len() {
-        sum = (sum % 0x80_0000_0000_0000 * 32 + value(text[i]) as u64) % 0x1000_0000_0000_0000;
-        i += 1;
+    for byte in text {
+        sum = (sum % 0x80_0000_0000_0000 * 32 + value(*byte) as u64) % 0x1000_0000_0000_0000;
     }
     sum
 }
