@@ -1,57 +1,56 @@
 // Coding's checks before a cell is looked for, table by table, and what they leave to a road.
 #![tactic(auto)]
 
-ghost use Rattle.std.specs.Prelude.{◌/◌, ◌≤◌, ◌≡◌, ◌++◌, length};
+ghost use Rattle.std.specs.Prelude.{◌/◌, ◌≤◌, ◌≡◌, length};
 ghost use Rattle.replies.specs.Replies.{run};
 ghost use Rattle.corners.specs.Corners.{corners_of};
 ghost use Rattle.unit.specs.Extents.{extremes_of};
 ghost use Rattle.unit.specs.Unit.{bad_number, room_check, shape_checks, crossed_check, ground_checks, number_check};
 ghost use Rattle.unit.specs.Frame.{says, tells, admitting};
 
-use crossed::Met;
 use ground::{DEGREE, Rectangle};
-use unit::{Admission, Coded, Kind, coded_number};
+use unit::{Kind, Refusal};
 
 // What check 1 says of so many bytes of room.
-fn room_check(room: usize) -> Coded
+fn room_check(room: usize) -> Result<(), Refusal>
     ensures { says result ≡ run (room_check room) }
 {
     if room < 20 {
-        return Coded::Output;
+        return Err(Refusal::Output);
     }
-    Coded::Accepted
+    Ok(())
 }
 
 // What checks 2 and 3 say.
-fn shape_checks(numbers: &[u32]) -> Coded
+fn shape_checks(numbers: &[u32]) -> Result<(), Refusal>
     ensures { says result ≡ run (shape_checks numbers.now) }
 {
     if numbers.len() % 2 == 1 {
-        return Coded::Pairs;
+        return Err(Refusal::Pairs);
     }
     let count = numbers.len() / 2;
     if count < 3 || 1024 < count {
-        return Coded::Corners;
+        return Err(Refusal::Corners);
     }
-    Coded::Accepted
+    Ok(())
 }
 
 // What check 31 says of at most 1,024 corners.
-fn crossed_check(numbers: &[u32]) -> Coded
+fn crossed_check(numbers: &[u32]) -> Result<(), Refusal>
     requires { length numbers.now / 2 ≤ 1024 }
     ensures { says result ≡ run (crossed_check (corners_of numbers.now)) }
 {
     match crossed::first_pair(numbers) {
-        Met::Pair(first, _) => {
+        Some((first, _)) => {
             let corner = first as u32;
-            Coded::Crossed(corner)
+            Err(Refusal::Crossed(corner))
         }
-        Met::Nowhere => Coded::Accepted,
+        None => Ok(()),
     }
 }
 
 // What checks 4, 5 and 31 say of at most 1,024 corners and their extremes.
-fn ground_checks(numbers: &[u32], r: Rectangle) -> Coded
+fn ground_checks(numbers: &[u32], r: Rectangle) -> Result<(), Refusal>
     requires numbers_len_bound { length numbers.now / 2 ≤ 1024 }
     requires r_value { r ≡ extremes_of (corners_of numbers.now) }
     ensures { says result ≡ run (ground_checks (corners_of numbers.now)) }
@@ -59,10 +58,10 @@ fn ground_checks(numbers: &[u32], r: Rectangle) -> Coded
     let above = extents::first_above(numbers);
     if above < numbers.len() / 2 {
         let corner = above as u32;
-        return Coded::Range(corner);
+        return Err(Refusal::Range(corner));
     }
     if DEGREE < extents::span(r) {
-        return Coded::Extent;
+        return Err(Refusal::Extent);
     }
     crossed_check(numbers)
 }
@@ -78,53 +77,25 @@ fn bad_number(kind: Kind, number: u32) -> bool
 }
 
 // What check 6 says.
-fn number_check(kind: Kind, number: u32) -> Coded
+fn number_check(kind: Kind, number: u32) -> Result<(), Refusal>
     ensures { says result ≡ run (number_check kind number) }
 {
     if bad_number(kind, number) {
-        return Coded::Number;
+        return Err(Refusal::Number);
     }
-    Coded::Accepted
-}
-
-// What checks 1 to 3 say of so many bytes of room: the first refusal, or acceptance.
-fn early_checks(room: usize, numbers: &[u32]) -> Coded
-    ensures { says result ≡ run (room_check room ++ shape_checks numbers.now) }
-{
-    let roomy = room_check(room);
-    if coded_number(roomy) != 0 {
-        return roomy;
-    }
-    shape_checks(numbers)
-}
-
-// What the tables after these say of at most 1,024 corners and their extremes.
-fn late_checks(numbers: &[u32], r: Rectangle, kind: Kind, number: u32) -> Coded
-    requires numbers_len_bound { length numbers.now / 2 ≤ 1024 }
-    requires r_value { r ≡ extremes_of (corners_of numbers.now) }
-    ensures { says result ≡ run (ground_checks (corners_of numbers.now) ++ number_check kind number) }
-{
-    let grounded = ground_checks(numbers, r);
-    if coded_number(grounded) != 0 {
-        return grounded;
-    }
-    number_check(kind, number)
+    Ok(())
 }
 
 // What the tables leave to a road: the refusal of the first check that refuses, or the unit's own extremes;
 // a cell is looked for only then. The extremes are worked out once, for check 5 and for the road, and not
 // where no corner has to be looked at.
-pub fn admit(room: usize, numbers: &[u32], kind: Kind, number: u32) -> Admission
+pub fn admit(room: usize, numbers: &[u32], kind: Kind, number: u32) -> Result<Rectangle, Refusal>
     ensures { tells result ≡ admitting room numbers.now kind number }
 {
-    let early = early_checks(room, numbers);
-    if coded_number(early) != 0 {
-        return Admission::Refused(early);
-    }
+    room_check(room)?;
+    shape_checks(numbers)?;
     let r = extents::extremes(numbers);
-    let late = late_checks(numbers, r, kind, number);
-    if coded_number(late) != 0 {
-        return Admission::Refused(late);
-    }
-    Admission::Over(r)
+    ground_checks(numbers, r)?;
+    number_check(kind, number)?;
+    Ok(r)
 }

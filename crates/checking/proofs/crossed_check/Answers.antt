@@ -9,14 +9,14 @@ use Rattle.checking.proofs.crossed_check.Goals as goal
 
 pub overflow_cast-corner : goal.overflow_cast-corner
 overflow_cast-corner c =
-    let found = sym c.first_pair.ensures ∙ c.in-Pair.is in
+    let found = sym c.first_pair.ensures ∙ c.in-Some.is in
     let numbers = c.args.numbers.now in
     let within = pair_within (corners_of numbers) found in
-    let low : c.in-Pair.first < 1024 = omega (arith, within.0, corners_length numbers, c.requires) in
+    let low : c.in-Some.first < 1024 = omega (arith, within.0, corners_length numbers, c.requires) in
     search (rules, low)
 
-pub returns-in-Pair : goal.returns-in-Pair
-returns-in-Pair c = rw (sym c.first_pair.ensures ∙ c.in-Pair.is)
+pub returns-in-Some : goal.returns-in-Some
+returns-in-Some c = rw (sym c.first_pair.ensures ∙ c.in-Some.is)
 
-pub returns-in-Nowhere : goal.returns-in-Nowhere
-returns-in-Nowhere c = rw (sym c.first_pair.ensures ∙ c.in-Nowhere.is)
+pub returns-in-None : goal.returns-in-None
+returns-in-None c = rw (sym c.first_pair.ensures ∙ c.in-None.is)
