@@ -10,11 +10,11 @@ ghost use Rattle.edge.specs.Extreme.{extreme_lat, extreme_lon};
 use ground::{Lat, Lon, Point, Rectangle};
 use side::left;
 
-// Whether a is at most b, and c at most d.
-fn both_most(a: u32, b: u32, c: u32, d: u32) -> bool
-    ensures { result ≡ (leb a b && leb c d) }
+// Whether the sides of a rectangle are in order.
+fn in_order(r: Rectangle) -> bool
+    ensures { result ≡ (leb r.west.0 r.east.0 && leb r.south.0 r.north.0) }
 {
-    a <= b && c <= d
+    r.west.0 <= r.east.0 && r.south.0 <= r.north.0
 }
 
 // Whether two numbers are both at most a third: the greater tells.
@@ -35,16 +35,10 @@ fn least(a: u32, b: u32, third: u32) -> bool
 pub fn beyond(a: Point, b: Point, r: Rectangle) -> bool
     ensures { result ≡ Edge·beyond (edge a b) r }
 {
-    if most(a.lon.0, b.lon.0, r.west.0) {
-        return true;
-    }
-    if least(a.lon.0, b.lon.0, r.east.0) {
-        return true;
-    }
-    if most(a.lat.0, b.lat.0, r.south.0) {
-        return true;
-    }
-    least(a.lat.0, b.lat.0, r.north.0)
+    most(a.lon.0, b.lon.0, r.west.0)
+        || least(a.lon.0, b.lon.0, r.east.0)
+        || most(a.lat.0, b.lat.0, r.south.0)
+        || least(a.lat.0, b.lat.0, r.north.0)
 }
 
 // The latitude of the corner that is furthest right of the line from a to b.
@@ -103,7 +97,7 @@ fn each_left(a: Point, b: Point, r: Rectangle) -> bool
 pub fn aside(a: Point, b: Point, r: Rectangle) -> bool
     ensures { result ≡ (all_left a b r || all_left b a r) }
 {
-    if both_most(r.west.0, r.east.0, r.south.0, r.north.0) {
+    if in_order(r) {
         return ordered_left(a, b, r) || ordered_left(b, a, r);
     }
     each_left(a, b, r) || each_left(b, a, r)
@@ -127,7 +121,7 @@ fn strictly_within(p: Point, r: Rectangle) -> bool
 pub fn has_length(a: Point, b: Point) -> bool
     ensures { result ≡ not (no_length (edge a b)) }
 {
-    a.lat.0 != b.lat.0 || a.lon.0 != b.lon.0
+    a != b
 }
 
 // Whether an edge that has a length has an end strictly within a rectangle.

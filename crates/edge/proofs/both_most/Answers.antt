@@ -1,9 +1,0 @@
--- `edge::both_most` meets its contract: the second test decides where the first holds. Assumes nothing.
-use borrow.Author.Tests.{le-leb, lt-leb}
-use Rattle.edge.proofs.both_most.Goals as goal
-
-pub returns-then-a-b : goal.returns-then-a-b
-returns-then-a-b c = let a = c.args in rw (le-leb a.a a.b c.if-a-b.true)
-
-pub returns-else-a-b : goal.returns-else-a-b
-returns-else-a-b c = let a = c.args in rw (lt-leb a.a a.b c.if-a-b.false)

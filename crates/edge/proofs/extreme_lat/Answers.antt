@@ -1,9 +1,0 @@
--- `edge::extreme_lat` meets its contract: by the line's direction. Assumes nothing.
-use borrow.Author.Tests.{le-leb, lt-leb}
-use Rattle.edge.proofs.extreme_lat.Goals as goal
-
-pub returns-then-a-b : goal.returns-then-a-b
-returns-then-a-b c = rw (le-leb _ _ c.if-a-b.true)
-
-pub returns : goal.returns
-returns c = rw (lt-leb _ _ c.if-a-b.false)
