@@ -25,7 +25,7 @@ pub fn high_side(level: u32, a: u32) -> u64
     let whole = afresh(level);
     let full = a as u64 + size(level) as u64;
     let cut = (a / whole * whole) as u64 + whole as u64;
-    if full < cut { full } else { cut }
+    full.min(cut)
 }
 
 // Whether an angle is the low side of a cell that ends at or before an end of the range.
