@@ -13,13 +13,10 @@ use ground::{Cell, Point, Rectangle};
 fn unmet(edges: &[u32], r: Rectangle) -> bool
     ensures { result ≡ Boundary·unmet r (edges_in edges.now) }
 {
-    let count = edges.len() / 4;
-    let mut i = 0;
-    while i < count {
+    for i in 0..edges.len() / 4 {
         if !misses(corner(edges, 2 * i), corner(edges, 2 * i + 1), r) {
             return false;
         }
-        i += 1;
     }
     true
 }
@@ -28,12 +25,9 @@ fn unmet(edges: &[u32], r: Rectangle) -> bool
 pub fn odd_count(edges: &[u32], p: Point) -> bool
     ensures { result ≡ point_inside p (edges_in edges.now) }
 {
-    let count = edges.len() / 4;
     let mut odd = false;
-    let mut i = 0;
-    while i < count {
+    for i in 0..edges.len() / 4 {
         odd = odd != crosses_east(p, corner(edges, 2 * i), corner(edges, 2 * i + 1));
-        i += 1;
     }
     odd
 }

@@ -20,13 +20,6 @@ pub fn put_edge(room: &mut [u32], place: usize, a: Point, b: Point)
     }
 }
 
-// Whether two corners are one point.
-fn one_point(a: Point, b: Point) -> bool
-    ensures { result ≡ no_length (edge a b) }
-{
-    a.lat.0 == b.lat.0 && a.lon.0 == b.lon.0
-}
-
 // The place after a place of so many: after the last comes the first.
 fn place_after(count: usize, place: usize) -> usize
     requires { place < count }
@@ -50,7 +43,7 @@ fn list_edge(
     ensures edges_after { edges.new ≡ cond (no_length (edge a b)) edges.old (with_edge edges.old listed (edge a b)) }
     ensures places_after { places.new ≡ cond (no_length (edge a b)) places.old (set places.old listed place) }
 {
-    if one_point(a, b) {
+    if a == b {
         return listed;
     }
     put_edge(edges, listed, a, b);
@@ -74,8 +67,7 @@ pub fn list_edges(numbers: &[u32], edges: &mut [u32], places: &mut [usize]) -> u
         return 0;
     }
     let mut listed = 0;
-    let mut i = 0;
-    while i < count {
+    for i in 0..count {
         listed = list_edge(
             edges,
             places,
@@ -84,7 +76,6 @@ pub fn list_edges(numbers: &[u32], edges: &mut [u32], places: &mut [usize]) -> u
             corner(numbers, i),
             corner(numbers, place_after(count, i)),
         );
-        i += 1;
     }
     listed
 }

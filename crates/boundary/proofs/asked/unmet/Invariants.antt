@@ -1,11 +1,6 @@
 -- `boundary::asked::unmet` meets its contract: every edge before the loop misses. Assumes nothing.
-use Prim.Native.Nat.{◌-◌, ◌/◌}
-use lib.ListN.{length}
 use Rattle.boundary.specs.ListedLaws.{UnmetFrom}
 use Rattle.boundary.proofs.asked.unmet.Given as goal
 
 abbrev pub invariant-loop-i : goal.invariant-loop-i
 invariant-loop-i l = UnmetFrom l.edges l.r l.i
-
-abbrev pub decreases-loop-i : goal.decreases-loop-i
-decreases-loop-i l = length l.edges / 4 - l.i
