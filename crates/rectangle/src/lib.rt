@@ -12,35 +12,21 @@ use ground::{Lat, Lon, Rectangle};
 fn span_distance(span: u32, scale: u32) -> u64
     ensures { result ≡ (span - 1) * size_of scale }
 {
-    if span == 0 {
-        return 0;
-    }
-    (span - 1) as u64 * ground::size(scale) as u64
+    span.saturating_sub(1) as u64 * ground::size(scale) as u64
 }
 
 // An angle less a distance, stopped at 0.
 fn back(from: u32, by: u64) -> u32
     ensures { result ≡ from - by }
 {
-    if by < from as u64 {
-        from - by as u32
-    } else {
-        0
-    }
+    (from as u64).saturating_sub(by) as u32
 }
 
 // An angle and a distance, stopped at the end.
 fn ahead(from: u32, by: u64, end: u32) -> u32
     ensures { result ≡ min (from + by) end }
 {
-    if end <= from {
-        return end;
-    }
-    if by < (end - from) as u64 {
-        from + by as u32
-    } else {
-        end
-    }
+    (from as u64).saturating_add(by).min(end as u64) as u32
 }
 
 // The rectangle runs from the reference by W-1, E-1, S-1 and N-1 cells, and stops at 0, at 90° and
