@@ -1,6 +1,6 @@
 -- The laws of the journal page: a record is 31 bytes; what writing answers and leaves, and what is found, case by case. Assumes nothing.
-use Rattle.std.specs.Prelude.{ℕ, ◌+◌, ◌-◌, ◌%◌, ◌^◌, ◌≤◌, ◌<◌, ◌≡◌, Bool, not, ◌&&◌, ◌||◌, eqb, length, get_or, take, drop}
-use Rattle.std.proofs.Common.{add-one, arith, ap, ap₂, sym, ◌∙◌, subst, true≢false, length-append, length-take, length-drop, drop_of_length-le, take_all, drop-cons}
+use Rattle.std.specs.Prelude.{ℕ, ◌+◌, ◌-◌, ◌%◌, ◌^◌, ◌≤◌, ◌<◌, ◌≡◌, Bool, not, ◌&&◌, ◌||◌, eqb, length, get_or, take, drop, Some, None, Ok, Err}
+use Rattle.std.proofs.Common.{arith, ap, ap₂, sym, ◌∙◌, subst, true≢false, length-append, length-take, length-drop, drop_of_length-le, take_all}
 use Rattle.std.proofs.Math.Path.{refl}
 use Rattle.std.proofs.Math.Bool.{true, false, cond, or-true}
 use mathlib.Core.List.{List, [], ◌∷◌, ◌++◌, append-nil}
@@ -9,6 +9,7 @@ use borrow.Author.Rules.{part_to_end}
 use borrow.Rule.Slice.PartMut.{put_mid}
 use borrow.Author.Tests.{eq-eqb, ne_eqb, eqb-true, eqb-false, lt-ltb, le-ltb, ltb-false, not-false}
 use Rattle.facts.specs.Texts.{same_text}
+use Rattle.std.specs.Cmp.Lexicographic.{pointwise}
 use Rattle.facts.specs.Tests.{neither}
 use Rattle.replies.specs.Replies.{Said, check, run, Outcome}
 use Rattle.letters.specs.Alphabet.{first_other}
@@ -24,12 +25,10 @@ use Rattle.entitlements.specs.declared.Kind.TheVariants.{Activate, Cancel}
 use Rattle.entitlements.specs.Entitlements.{largest, letter_of, kind_of}
 use Rattle.room.specs.Room.{Put}
 use Rattle.room.specs.RoomLaws.{put_first}
-use Rattle.page.specs.declared.Written.{Written}
-use Rattle.page.specs.declared.Written.TheVariants as written
+use Rattle.page.specs.declared.RecordError.TheVariants as write
 use Rattle.page.specs.declared.Record.{Record}
-use Rattle.page.specs.declared.Found.{Found}
-use Rattle.page.specs.declared.Found.TheVariants as found
-use Rattle.page.specs.Page.{record_length, record_of, letter_in, code_of, number_text, stretch_at, write_checks, outcome_by, writing, writing_at, leaves, mark_wrong, is_kind, number_wrong, content_wrong, record_by, record_in, found_in, look_at, code_at}
+use Rattle.page.specs.declared.LookError.TheVariants as look
+use Rattle.page.specs.Page.{Written, Found, record_length, record_of, letter_in, code_of, number_text, stretch_at, write_checks, outcome_by, writing, writing_at, leaves, mark_wrong, is_kind, number_wrong, content_wrong, record_by, record_in, found_in, look_at, code_at}
 use Rattle.page.specs.Told.{number_of, content_with}
 use Rattle.page.specs.Known.{same_as, code_by, with_code, found_with, look_with}
 
@@ -44,39 +43,39 @@ record_length_lem kind text number e = omega (arith, length-append text (spelled
 
 module _ (kind : Kind) (text : List ℕ) (number : ℕ) (stretch : List ℕ) where
   -- 41: the number is 0, or too large
-  pub writing_zero : number ≡ 0 → writing kind text number stretch ≡ leaves written.Number stretch
+  pub writing_zero : number ≡ 0 → writing kind text number stretch ≡ leaves (Err write.Number) stretch
   unfolding writing write_checks
   writing_zero e = rw (eq-eqb number 0 e)
 
-  pub writing_large : largest < number → writing kind text number stretch ≡ leaves written.Number stretch
+  pub writing_large : largest < number → writing kind text number stretch ≡ leaves (Err write.Number) stretch
   unfolding writing write_checks
   writing_large h = rw (lt-ltb largest number h, or-true)
 
   module _ (some : number ≡ 0 → ⊥) (most : number ≤ largest) where
     -- 42: the text is no code
-    pub writing_refused : code_in text ≡ Refused → writing kind text number stretch ≡ leaves written.Code stretch
+    pub writing_refused : code_in text ≡ Refused → writing kind text number stretch ≡ leaves (Err write.Code) stretch
     unfolding writing write_checks
     writing_refused e = rw (ne_eqb number 0 some, le-ltb largest number most, code_refused text e)
 
     module _ {code : Halves} (read : code_in text ≡ Read code) where
       -- 51: fewer than 31 bytes
-      pub writing_short : length stretch < record_length → writing kind text number stretch ≡ leaves written.Short stretch
+      pub writing_short : length stretch < record_length → writing kind text number stretch ≡ leaves (Err write.Short) stretch
       unfolding writing write_checks
       writing_short h = rw (ne_eqb number 0 some, le-ltb largest number most, (code_read text read).0, lt-ltb (length stretch) record_length h)
 
       -- and the record where there are 31
       writing_whole : record_length ≤ length stretch
-          → writing kind text number stretch ≡ leaves written.Accepted (record_of kind text number ++ drop record_length stretch)
+          → writing kind text number stretch ≡ leaves (Ok tt) (record_of kind text number ++ drop record_length stretch)
       unfolding writing write_checks
       writing_whole h = rw (ne_eqb number 0 some, le-ltb largest number most, (code_read text read).0, le-ltb (length stretch) record_length h)
 
       -- which is what is put at its start
       pub writing_put : length text ≡ 20 → record_length ≤ length stretch → {end : ℕ} {later : List ℕ}
-          → Put stretch 0 (record_of kind text number) end later → writing kind text number stretch ≡ leaves written.Accepted later
+          → Put stretch 0 (record_of kind text number) end later → writing kind text number stretch ≡ leaves (Ok tt) later
       writing_put twenty h p =
           let long = record_length_lem kind text number twenty in
           writing_whole h
-          ∙ ap (leaves written.Accepted)
+          ∙ ap (leaves (Ok tt))
           (sym (p.holds ∙ put_first stretch (record_of kind text number) (omega (arith, long, h)) ∙ ap (λ (n : ℕ). record_of kind text number ++ drop n stretch) long))
 
 -- A code has twenty letters
@@ -162,7 +161,7 @@ pub eight_bytes : (stretch : List ℕ) → record_length ≤ length stretch → 
 eight_bytes stretch h = omega (arith, length-take 8 (drop 23 stretch), length-drop 23 stretch)
 
 module _ (reads : List ℕ → Code) (kind : Kind) (stretch : List ℕ) (h : record_length ≤ length stretch) where
-  pub content_none : number_of (number_text stretch) ≡ 0 → content_with reads kind stretch ≡ found.Content
+  pub content_none : number_of (number_text stretch) ≡ 0 → content_with reads kind stretch ≡ Err look.Content
   content_none e = rw (number_none (number_text stretch) (eight_bytes stretch h) e)
 
   module _ (n : number_of (number_text stretch) ≡ 0 → ⊥) where
@@ -171,70 +170,51 @@ module _ (reads : List ℕ → Code) (kind : Kind) (stretch : List ℕ) (h : rec
         let some = number_some (number_text stretch) (eight_bytes stretch h) n in
         rw some.0 (ap (λ (number : ℕ). with_code kind number (reads (code_of stretch))) (sym some.1))
 
-    pub content_refused : reads (code_of stretch) ≡ Refused → content_with reads kind stretch ≡ found.Content
+    pub content_refused : reads (code_of stretch) ≡ Refused → content_with reads kind stretch ≡ Err look.Content
     content_refused e = numbered ∙ ap (with_code kind (number_of (number_text stretch))) e
 
     pub content_read : {code : Halves} → reads (code_of stretch) ≡ Read code
-        → content_with reads kind stretch ≡ found.Record (record_by kind code (number_of (number_text stretch)))
+        → content_with reads kind stretch ≡ Ok (Some (record_by kind code (number_of (number_text stretch))))
     content_read e = numbered ∙ ap (with_code kind (number_of (number_text stretch))) e
 
 -- ---- what is found in a stretch
 
--- The first two bytes are the mark, or one of them is not
-mark_two : (stretch : List ℕ) → record_length ≤ length stretch
-    → mark_wrong stretch ≡ not (eqb (get_or stretch 0 0) 42 && (eqb (get_or stretch 1 0) 43 && true))
-mark_two [] h = let none : ⊥ = omega arith in absurd none
-mark_two (a ∷ []) h = let none : ⊥ = omega arith in absurd none
-mark_two (a ∷ b ∷ stretch) h = refl
-
 module _ (reads : List ℕ → Code) (stretch : List ℕ) where
-  pub found_cut : length stretch < record_length → found_with reads stretch ≡ found.Cut
+  pub found_cut : length stretch < record_length → found_with reads stretch ≡ Err look.Cut
   unfolding found_with
   found_cut h = rw (lt-ltb (length stretch) record_length h)
 
   module _ (h : record_length ≤ length stretch) where
-    pub found_first : (get_or stretch 0 0 ≡ 42 → ⊥) → found_with reads stretch ≡ found.Mark
+    pub found_unmarked : mark_wrong stretch ≡ true → found_with reads stretch ≡ Err look.Mark
     unfolding found_with
-    found_first n = rw (le-ltb (length stretch) record_length h, mark_two stretch h, ne_eqb (get_or stretch 0 0) 42 n)
+    found_unmarked m = rw (le-ltb (length stretch) record_length h, m)
 
-    module _ (first : get_or stretch 0 0 ≡ 42) where
-      pub found_second : (get_or stretch 1 0 ≡ 43 → ⊥) → found_with reads stretch ≡ found.Mark
+    module _ (m : mark_wrong stretch ≡ false) where
+      -- what follows the mark, by the letter of the kind
+      abbrev marked : ℕ → Found
+      marked letter =
+          cond (not (is_kind letter) || number_wrong (number_text stretch)) (Err look.Content)
+          (with_code (kind_of letter) (number_in letters (number_text stretch)) (reads (code_of stretch)))
+
+      found_marked : found_with reads stretch ≡ marked (get_or stretch 2 0)
       unfolding found_with
-      found_second n =
-          rw (le-ltb (length stretch) record_length h, mark_two stretch h, eq-eqb (get_or stretch 0 0) 42 first, ne_eqb (get_or stretch 1 0) 43 n)
+      found_marked = rw (le-ltb (length stretch) record_length h, m)
 
-      module _ (second : get_or stretch 1 0 ≡ 43) where
-        -- what follows the mark, by the letter of the kind
-        abbrev marked : ℕ → Found
-        marked letter =
-            cond (not (is_kind letter) || number_wrong (number_text stretch)) found.Content
-            (with_code (kind_of letter) (number_in letters (number_text stretch)) (reads (code_of stretch)))
+      pub found_kind : (kind : Kind) → get_or stretch 2 0 ≡ letter_of kind → found_with reads stretch ≡ content_with reads kind stretch
+      found_kind kind e = found_marked ∙ ap marked e ∙ of kind
+        where
+          of : (kind : Kind) → marked (letter_of kind) ≡ content_with reads kind stretch
+          of Activate = refl
+          of Cancel = refl
 
-        found_marked : found_with reads stretch ≡ marked (get_or stretch 2 0)
-        unfolding found_with
-        found_marked =
-            rw (
-              le-ltb (length stretch) record_length h,
-              mark_two stretch h,
-              eq-eqb (get_or stretch 0 0) 42 first,
-              eq-eqb (get_or stretch 1 0) 43 second,
-            )
-
-        pub found_kind : (kind : Kind) → get_or stretch 2 0 ≡ letter_of kind → found_with reads stretch ≡ content_with reads kind stretch
-        found_kind kind e = found_marked ∙ ap marked e ∙ of kind
-          where
-            of : (kind : Kind) → marked (letter_of kind) ≡ content_with reads kind stretch
-            of Activate = refl
-            of Cancel = refl
-
-        pub found_other : (get_or stretch 2 0 ≡ letter_of Activate → ⊥) → (get_or stretch 2 0 ≡ letter_of Cancel → ⊥)
-            → found_with reads stretch ≡ found.Content
-        found_other a c = found_marked ∙ rw (ne_eqb (get_or stretch 2 0) 65 a, ne_eqb (get_or stretch 2 0) 67 c)
+      pub found_other : (get_or stretch 2 0 ≡ letter_of Activate → ⊥) → (get_or stretch 2 0 ≡ letter_of Cancel → ⊥)
+          → found_with reads stretch ≡ Err look.Content
+      found_other a c = found_marked ∙ rw (ne_eqb (get_or stretch 2 0) 65 a, ne_eqb (get_or stretch 2 0) 67 c)
 
 -- ---- what is found at an offset
 
 module _ (reads : List ℕ → Code) (page : List ℕ) (offset : ℕ) where
-  pub look_end : offset ≡ length page → look_with reads page offset ≡ found.End
+  pub look_end : offset ≡ length page → look_with reads page offset ≡ Ok None
   unfolding look_with
   look_end e = rw (eq-eqb offset (length page) e)
 
@@ -242,7 +222,7 @@ module _ (reads : List ℕ → Code) (page : List ℕ) (offset : ℕ) where
   unfolding look_with
   look_in n = rw (ne_eqb offset (length page) n)
 
-  pub look_past : length page < offset → look_with reads page offset ≡ found.Cut
+  pub look_past : length page < offset → look_with reads page offset ≡ Err look.Cut
   look_past h =
       look_in (λ e. omega (arith, e, h)) ∙ found_cut reads (stretch_at page offset) (omega (arith, length-drop offset page))
 
@@ -252,13 +232,13 @@ module _ (reads : List ℕ → Code) (page : List ℕ) (offset : ℕ) where
 found_reading : (stretch : List ℕ) → found_with code_in stretch ≡ found_in stretch
 unfolding found_with found_in code_in
 found_reading stretch =
-    ap (λ (f : Found). cond (ltb (length stretch) record_length) found.Cut (cond (mark_wrong stretch) found.Mark f))
+    ap (λ (f : Found). cond (ltb (length stretch) record_length) (Err look.Cut) (cond (mark_wrong stretch) (Err look.Mark) f))
     (of (is_kind (letter_in stretch)) (readable (code_of stretch)) (number_wrong (number_text stretch)))
   where
     of : (k r n : Bool)
-        → cond (not k || n) found.Content
+        → cond (not k || n) (Err look.Content)
         (with_code (kind_of (letter_in stretch)) (number_in letters (number_text stretch)) (cond r (Read (halves_in (code_of stretch))) Refused))
-        ≡ cond (not k || (not r || n)) found.Content (found.Record (record_in stretch))
+        ≡ cond (not k || (not r || n)) (Err look.Content) (Ok (Some (record_in stretch)))
     of true true true = refl
     of true true false = refl
     of true false true = refl
@@ -307,79 +287,40 @@ pub look_known : (reads : List ℕ → Code) → ((text : List ℕ) → reads te
 unfolding look_with look_at found_with
 look_known reads same page offset =
     let stretch : List ℕ = stretch_at page offset in
-    ap (λ (c : Code). cond (eqb offset (length page)) found.End
-    (cond (ltb (length stretch) record_length) found.Cut
-    (cond (mark_wrong stretch) found.Mark
-    (cond (not (is_kind (letter_in stretch)) || number_wrong (number_text stretch)) found.Content
+    ap (λ (c : Code). cond (eqb offset (length page)) (Ok None)
+    (cond (ltb (length stretch) record_length) (Err look.Cut)
+    (cond (mark_wrong stretch) (Err look.Mark)
+    (cond (not (is_kind (letter_in stretch)) || number_wrong (number_text stretch)) (Err look.Content)
     (with_code (kind_of (letter_in stretch)) (number_in letters (number_text stretch)) c)))))
     (same (code_of stretch))
-    ∙ ap (cond (eqb offset (length page)) found.End) (found_reading stretch)
+    ∙ ap (cond (eqb offset (length page)) (Ok None)) (found_reading stretch)
 
--- ---- two texts of twenty bytes, byte by byte
+-- ---- two texts compared as slices
 
-module _ (earlier text : List ℕ) where
-  -- texts of other lengths are not the same
-  pub same_first : (length earlier ≡ 20 → ⊥) → same_as earlier text ≡ false
-  same_first n = rw (ne_eqb (length earlier) 20 n)
-
-  pub same_second : length earlier ≡ 20 → (length text ≡ 20 → ⊥) → same_as earlier text ≡ false
-  same_second e n = rw (eq-eqb (length earlier) 20 e) (at (same_text earlier text) refl)
-    where
-      at : (b : Bool) → same_text earlier text ≡ b → b ≡ false
-      at true k = absurd (n (ap length (sym (same_text_lem earlier text k)) ∙ e))
-      at false k = refl
-
-  -- what is left of both from a position on answers as the whole does
-  pub record Comparing (i : ℕ) : Type 0 where
-    pub first : length earlier ≡ 20
-    pub second : length text ≡ 20
-    pub alike : same_as earlier text ≡ same_text (drop i earlier) (drop i text)
-
-  pub comparing_begin : length earlier ≡ 20 → length text ≡ 20 → Comparing 0
-  comparing_begin e k = record { first = e; second = k; alike = rw (eq-eqb (length earlier) 20 e) refl }
-
-  module _ {i : ℕ} (so : Comparing i) where
-    module _ (h : i < 20) where
-      within : (i < length earlier) × (i < length text)
-      within = (omega (arith, h, so.first), omega (arith, h, so.second))
-
-      -- two bytes that differ, and one byte in both
-      pub comparing_other : (get_or earlier i 0 ≡ get_or text i 0 → ⊥) → same_as earlier text ≡ false
-      comparing_other n =
-          so.alike ∙ rw (drop-cons earlier i 0 within.0, drop-cons text i 0 within.1, ne_eqb (get_or earlier i 0) (get_or text i 0) n) refl
-
-      pub comparing_more : get_or earlier i 0 ≡ get_or text i 0 → Comparing (i + 1)
-      comparing_more e = record {
-        first = so.first;
-        second = so.second;
-        alike =
-            so.alike
-            ∙ rw (drop-cons earlier i 0 within.0, drop-cons text i 0 within.1, eq-eqb (get_or earlier i 0) (get_or text i 0) e, add-one) refl;
-      }
-
-    -- the end of both
-    pub comparing_end : 20 ≤ i → same_as earlier text ≡ true
-    comparing_end h =
-        so.alike
-        ∙ rw (drop_of_length-le earlier {i = i} (omega (arith, h, so.first)), drop_of_length-le text {i = i} (omega (arith, h, so.second))) refl
+-- whichever comes first
+pub texts_compared : (a b : List ℕ) → pointwise eqb a b ≡ same_text b a
+texts_compared [] [] = refl
+texts_compared [] (y ∷ b) = refl
+texts_compared (x ∷ a) [] = refl
+texts_compared (x ∷ a) (y ∷ b) = ap₂ ◌&&◌ (at (eqb x y) refl) (texts_compared a b)
+  where
+    at : (t : Bool) → eqb x y ≡ t → eqb x y ≡ eqb y x
+    at true k = k ∙ sym (eq-eqb y x (sym (eqb-true x y k)))
+    at false k = k ∙ sym (ne_eqb y x (λ e. eqb-false x y k (sym e)))
 
 -- ---- where a record is found
 
 -- Whether a record is found
 abbrev pub is_record : Found → Bool
-is_record (found.Record r) = true
-is_record found.End = false
-is_record found.Cut = false
-is_record found.Mark = false
-is_record found.Content = false
+is_record (Ok (Some r)) = true
+is_record (Ok None) = false
+is_record (Err e) = false
 
 -- and which
 abbrev record_found : Record → Found → Record
-record_found other (found.Record r) = r
-record_found other found.End = other
-record_found other found.Cut = other
-record_found other found.Mark = other
-record_found other found.Content = other
+record_found other (Ok (Some r)) = r
+record_found other (Ok None) = other
+record_found other (Err e) = other
 
 -- A stretch that starts with a record
 pub record Recorded (stretch : List ℕ) (r : Record) : Type 0 where
@@ -389,12 +330,12 @@ pub record Recorded (stretch : List ℕ) (r : Record) : Type 0 where
   pub holds : record_in stretch ≡ r
 
 -- is one in which it is found
-pub found_recorded : (stretch : List ℕ) {r : Record} → found_in stretch ≡ found.Record r → Recorded stretch r
+pub found_recorded : (stretch : List ℕ) {r : Record} → found_in stretch ≡ Ok (Some r) → Recorded stretch r
 unfolding found_in
 found_recorded stretch {r} = at (ltb (length stretch) record_length) (mark_wrong stretch) (content_wrong stretch) refl refl refl
   where
     at : (a b c : Bool) → ltb (length stretch) record_length ≡ a → mark_wrong stretch ≡ b → content_wrong stretch ≡ c
-        → cond a found.Cut (cond b found.Mark (cond c found.Content (found.Record (record_in stretch)))) ≡ found.Record r → Recorded stretch r
+        → cond a (Err look.Cut) (cond b (Err look.Mark) (cond c (Err look.Content) (Ok (Some (record_in stretch))))) ≡ Ok (Some r) → Recorded stretch r
     at true b c e k g f = absurd (true≢false (sym (ap is_record f)))
     at false true c e k g f = absurd (true≢false (sym (ap is_record f)))
     at false false true e k g f = absurd (true≢false (sym (ap is_record f)))
@@ -402,11 +343,11 @@ found_recorded stretch {r} = at (ltb (length stretch) record_length) (mark_wrong
         record { long = ltb-false (length stretch) record_length e; marked = k; good = g; holds = ap (record_found r) f }
 
 -- and at an offset, in its stretch
-pub look_recorded : (page : List ℕ) (offset : ℕ) {r : Record} → look_at page offset ≡ found.Record r → Recorded (stretch_at page offset) r
+pub look_recorded : (page : List ℕ) (offset : ℕ) {r : Record} → look_at page offset ≡ Ok (Some r) → Recorded (stretch_at page offset) r
 unfolding look_at
 look_recorded page offset {r} = at (eqb offset (length page))
   where
-    at : (b : Bool) → cond b found.End (found_in (stretch_at page offset)) ≡ found.Record r → Recorded (stretch_at page offset) r
+    at : (b : Bool) → cond b (Ok None) (found_in (stretch_at page offset)) ≡ Ok (Some r) → Recorded (stretch_at page offset) r
     at true f = absurd (true≢false (sym (ap is_record f)))
     at false f = found_recorded (stretch_at page offset) f
 
@@ -441,11 +382,11 @@ recorded_right {stretch} so =
     spelled letter false false e k n = absurd (true≢false n)
 
 -- so that 31 bytes of the page start there
-pub look_within : (page : List ℕ) (offset : ℕ) {r : Record} → look_at page offset ≡ found.Record r → offset + record_length ≤ length page
+pub look_within : (page : List ℕ) (offset : ℕ) {r : Record} → look_at page offset ≡ Ok (Some r) → offset + record_length ≤ length page
 look_within page offset f = omega (arith, (look_recorded page offset f).long, length-drop offset page)
 
 -- Its code is the twenty bytes from offset 3 on
-pub code_found : (page : List ℕ) (offset : ℕ) {r : Record} → look_at page offset ≡ found.Record r
+pub code_found : (page : List ℕ) (offset : ℕ) {r : Record} → look_at page offset ≡ Ok (Some r)
     → take (offset + 23 - (offset + 3)) (drop (offset + 3) page) ≡ code_at page offset
 code_found page offset f =
     let twenty : offset + 23 - (offset + 3) ≡ 20 = omega arith in

@@ -1,5 +1,5 @@
 -- Writing a record and reading it are each the other's reverse, and writing changes no byte beside the record. Assumes nothing.
-use Rattle.std.specs.Prelude.{ℕ, ◌+◌, ◌-◌, ◌≤◌, ◌≡◌, Bool, eqb, ltb, drop}
+use Rattle.std.specs.Prelude.{ℕ, ◌+◌, ◌-◌, ◌≤◌, ◌≡◌, Bool, eqb, ltb, drop, Some, Ok}
 use Rattle.std.proofs.Common.{arith, sym, ◌∙◌, subst, length-drop, take-append-drop, drop_at, drop-drop, take-add, length-take-le}
 use Rattle.std.proofs.Math.Path.{refl, ap, ap₂}
 use Rattle.std.proofs.Math.Bool.{true, false, not}
@@ -20,9 +20,7 @@ use Rattle.entitlements.specs.declared.Kind.{Kind}
 use Rattle.entitlements.specs.declared.Kind.TheVariants.{Activate, Cancel}
 use Rattle.entitlements.specs.Entitlements.{largest, letter_of, kind_letter}
 use Rattle.page.specs.declared.Record.{Record}
-use Rattle.page.specs.declared.Found.{Found}
-use Rattle.page.specs.declared.Found.TheVariants as found
-use Rattle.page.specs.Page.{record_length, mark, record_of, letter_in, code_of, number_text, stretch_at, write_checks, writing, writing_at, outcome_by, mark_wrong, is_kind, number_wrong, content_wrong, record_by, record_in, found_in, look_at, where_found, code_at}
+use Rattle.page.specs.Page.{Found, record_length, mark, record_of, letter_in, code_of, number_text, stretch_at, write_checks, writing, writing_at, outcome_by, mark_wrong, is_kind, number_wrong, content_wrong, record_by, record_in, found_in, look_at, where_found, code_at}
 use Rattle.page.proofs.PageLaws.{record_length_lem, code_twenty, same_text_lem, eight_bytes, Recorded, look_recorded, recorded_right}
 
 -- ---- what writing accepts
@@ -68,7 +66,7 @@ module _ (kind : Kind) (text : List ℕ) (number : ℕ) (stretch : List ℕ) whe
 -- ---- where a record is found
 
 found_good : (stretch : List ℕ) → record_length ≤ length stretch → mark_wrong stretch ≡ false → content_wrong stretch ≡ false
-    → found_in stretch ≡ found.Record (record_in stretch)
+    → found_in stretch ≡ Ok (Some (record_in stretch))
 unfolding found_in
 found_good stretch h m c = rw (le-ltb (length stretch) record_length h, m, c)
 
@@ -77,7 +75,7 @@ module _ (page : List ℕ) (offset : ℕ) where
   unfolding look_at
   look_stretch n = rw (ne_eqb offset (length page) n)
 
-  code_where : {r : Record} → look_at page offset ≡ found.Record r → code_at page offset ≡ take 20 (drop (offset + 3) page)
+  code_where : {r : Record} → look_at page offset ≡ Ok (Some r) → code_at page offset ≡ take 20 (drop (offset + 3) page)
   code_where f = ap (λ (g : Found). where_found g (take 20 (drop (offset + 3) page))) f
 
 -- ---- a record with anything after it
@@ -121,7 +119,7 @@ module _ (kind : Kind) (text : List ℕ) (number : ℕ) (twenty : length text �
   )
 
   -- so that the record is found
-  pub record_found_lem : {stretch : List ℕ} → Writable text number stretch → found_in bytes ≡ found.Record (record_by kind (halves_in text) number)
+  pub record_found_lem : {stretch : List ℕ} → Writable text number stretch → found_in bytes ≡ Ok (Some (record_by kind (halves_in text) number))
   unfolding record_of
   record_found_lem so =
       let long : record_length ≤ length bytes =
@@ -131,9 +129,9 @@ module _ (kind : Kind) (text : List ℕ) (number : ℕ) (twenty : length text �
       none_of (ap not (of kind))
       (none_of (ap (λ (t : List ℕ). not (readable t)) code_stands ∙ ap not so.read) (ap number_wrong number_stands ∙ number_right so.some so.most)) in
       found_good bytes long refl right
-      ∙ ap (λ (k : Kind). found.Record (record_by k (halves_in (code_of bytes)) (number_in letters (number_text bytes)))) (kind_letter kind)
-      ∙ ap₂ (λ (t n : List ℕ). found.Record (record_by kind (halves_in t) (number_in letters n))) code_stands number_stands
-      ∙ ap (λ (n : ℕ). found.Record (record_by kind (halves_in text) n)) back
+      ∙ ap (λ (k : Kind). Ok (Some (record_by k (halves_in (code_of bytes)) (number_in letters (number_text bytes))))) (kind_letter kind)
+      ∙ ap₂ (λ (t n : List ℕ). Ok (Some (record_by kind (halves_in t) (number_in letters n)))) code_stands number_stands
+      ∙ ap (λ (n : ℕ). Ok (Some (record_by kind (halves_in text) n))) back
     where
       of : (k : Kind) → is_kind (letter_of k) ≡ true
       of Activate = refl
@@ -177,7 +175,7 @@ module _ (page : List ℕ) (offset : ℕ) (kind : Kind) (text : List ℕ) (numbe
 
   -- "written and read by it, each the other's reverse": what was accepted is found at its offset, by its own bytes
   pub written_found : (writing_at page offset kind text number).said.number ≡ 0
-      → (look_at wrote offset ≡ found.Record (record_by kind (halves_in text) number)) × (code_at wrote offset ≡ text)
+      → (look_at wrote offset ≡ Ok (Some (record_by kind (halves_in text) number))) × (code_at wrote offset ≡ text)
   written_found e =
       let so = accepts kind text number (stretch_at page offset) e in
       let twenty = code_twenty text so.read in
@@ -239,7 +237,7 @@ record_back (a ∷ b ∷ l ∷ t) {r} so =
     ∙ ap (λ (m : List ℕ). m ++ l ∷ t) (sym marks)
 
 -- Writing what is found is accepted, and leaves the page as it was
-pub found_written : (page : List ℕ) (offset : ℕ) {r : Record} → look_at page offset ≡ found.Record r
+pub found_written : (page : List ℕ) (offset : ℕ) {r : Record} → look_at page offset ≡ Ok (Some r)
     → writing_at page offset r.kind (code_at page offset) r.number ≡ outcome_by accepted page
 found_written page offset {r} f =
     let stretch : List ℕ = stretch_at page offset in

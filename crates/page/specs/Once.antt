@@ -1,22 +1,20 @@
 -- No second answer meets the contracts of `page`: of writing each case is found back from what it says; those of reading are equations of the
 -- answer itself. Assumes nothing.
-use Rattle.std.specs.Prelude.{ℕ, ◌≡◌, refl, List, [], ◌∷◌}
+use Rattle.std.specs.Prelude.{ℕ, ◌≡◌, refl, List, [], ◌∷◌, Ok, Err}
 use Rattle.std.proofs.Common.{ap}
 use Rattle.facts.specs.Once.{once, said_once, sought}
 use Rattle.replies.specs.Replies.{Said, Outcome}
-use Rattle.page.specs.declared.Written.{Written}
-use Rattle.page.specs.declared.Written.TheVariants as written
-use Rattle.page.specs.declared.Found.{Found}
-use Rattle.page.specs.Page.{says, leaves, code_at}
+use Rattle.page.specs.declared.RecordError.TheVariants as write
+use Rattle.page.specs.Page.{Written, Found, says, leaves, code_at}
 
 abbrev written_by : Said → Written
-written_by s = sought (λ w. (says w).number) s.number written.Accepted (written.Number ∷ written.Code ∷ written.Short ∷ [])
+written_by s = sought (λ w. (says w).number) s.number (Ok tt) (Err write.Number ∷ Err write.Code ∷ Err write.Short ∷ [])
 
 written_back : (w : Written) → written_by (says w) ≡ w
-written_back written.Accepted = refl
-written_back written.Number = refl
-written_back written.Code = refl
-written_back written.Short = refl
+written_back (Ok tt) = refl
+written_back (Err write.Number) = refl
+written_back (Err write.Code) = refl
+written_back (Err write.Short) = refl
 
 -- Two answers and pages that meet the promise of `write_record` or of `write_at` are the same
 pub written_once : (o : Outcome) (w v : Written) (page other : List ℕ) → leaves w page ≡ o → leaves v other ≡ o → (w ≡ v) × (page ≡ other)

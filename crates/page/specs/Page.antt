@@ -1,6 +1,6 @@
 -- The journal page (document 02, request 6), in the request's words: a record's 31 bytes, what writing one at an offset says and leaves,
 -- and what is found at an offset. Assumes nothing.
-use Rattle.std.specs.Prelude.{ℕ, ◌+◌, Bool, cond, not, ◌||◌, List, [], ◌∷◌, ◌++◌, eqb, ltb, length, get_or, take, drop}
+use Rattle.std.specs.Prelude.{ℕ, ◌+◌, Bool, cond, not, ◌||◌, List, [], ◌∷◌, ◌++◌, eqb, ltb, length, get_or, take, drop, Option, Some, None, Result, Ok, Err}
 use Prim.Native.Char.{code}
 use Rattle.facts.specs.Texts.{same_text}
 use Rattle.replies.specs.Replies.{Said, refused, accepted, Check, check, run, Outcome}
@@ -10,11 +10,11 @@ use Rattle.halves.specs.declared.Halves.{Halves}
 use Rattle.halves.specs.Halves.{halves_in, readable}
 use Rattle.entitlements.specs.declared.Kind.{Kind}
 use Rattle.entitlements.specs.Entitlements.{largest, letter_of, kind_of}
-use Rattle.page.specs.declared.Written.{Written}
-use Rattle.page.specs.declared.Written.TheVariants as written
+use Rattle.page.specs.declared.RecordError.{RecordError}
+use Rattle.page.specs.declared.RecordError.TheVariants as write
 use Rattle.page.specs.declared.Record.{Record}
-use Rattle.page.specs.declared.Found.{Found}
-use Rattle.page.specs.declared.Found.TheVariants as found
+use Rattle.page.specs.declared.LookError.{LookError}
+use Rattle.page.specs.declared.LookError.TheVariants as look
 
 -- ---- "A page is a lent buffer of records end to end, each 31 bytes"
 
@@ -72,12 +72,16 @@ writing_at page offset kind text number =
     outcome_by (writing kind text number (stretch_at page offset)).said
     (take offset page ++ (writing kind text number (stretch_at page offset)).room)
 
+-- What writing answers: that it is done, or what is refused
+abbrev pub Written : Type 0
+Written = Result (Unit {0}) RecordError
+
 -- The number of each answer
 abbrev pub says : Written → Said
-says written.Accepted = accepted
-says written.Number = refused 41 0
-says written.Code = refused 42 0
-says written.Short = refused 51 0
+says (Ok _) = accepted
+says (Err write.Number) = refused 41 0
+says (Err write.Code) = refused 42 0
+says (Err write.Short) = refused 51 0
 
 -- What an answer of writing says, with the room
 abbrev pub leaves : Written → List ℕ → Outcome
@@ -110,32 +114,34 @@ record_by kind code number = record { kind = kind; code = code; number = number 
 abbrev pub record_in : List ℕ → Record
 record_in stretch = record_by (kind_of (letter_in stretch)) (halves_in (code_of stretch)) (number_in letters (number_text stretch))
 
+-- What is found: a record, the end as no record, or what is refused
+abbrev pub Found : Type 0
+Found = Result (Option Record) LookError
+
 -- What is found at the start of a stretch: "52 offset past the end or record cut short", 53, 54, or a record
 unfoldable pub found_in : List ℕ → Found
 found_in stretch =
-    cond (ltb (length stretch) record_length) found.Cut
-    (cond (mark_wrong stretch) found.Mark
-    (cond (content_wrong stretch) found.Content (found.Record (record_in stretch))))
+    cond (ltb (length stretch) record_length) (Err look.Cut)
+    (cond (mark_wrong stretch) (Err look.Mark)
+    (cond (content_wrong stretch) (Err look.Content) (Ok (Some (record_in stretch)))))
 
 -- What is found at an offset of a page: "An offset at the end is "end""
 unfoldable pub look_at : List ℕ → ℕ → Found
-look_at page offset = cond (eqb offset (length page)) found.End (found_in (stretch_at page offset))
+look_at page offset = cond (eqb offset (length page)) (Ok None) (found_in (stretch_at page offset))
 
 -- The number of each case: 0 for a record and for the end
 abbrev pub refusal_of : Found → ℕ
-refusal_of (found.Record r) = 0
-refusal_of found.End = 0
-refusal_of found.Cut = 52
-refusal_of found.Mark = 53
-refusal_of found.Content = 54
+refusal_of (Ok (Some r)) = 0
+refusal_of (Ok None) = 0
+refusal_of (Err look.Cut) = 52
+refusal_of (Err look.Mark) = 53
+refusal_of (Err look.Content) = 54
 
 -- Bytes where a record is found, and none in every other case
 abbrev pub where_found : Found → List ℕ → List ℕ
-where_found (found.Record r) bytes = bytes
-where_found found.End bytes = []
-where_found found.Cut bytes = []
-where_found found.Mark bytes = []
-where_found found.Content bytes = []
+where_found (Ok (Some r)) bytes = bytes
+where_found (Ok None) bytes = []
+where_found (Err e) bytes = []
 
 -- "Reading the record at an offset answers with the code's own twenty bytes in the page": from offset 3 of the record
 abbrev pub code_at : List ℕ → ℕ → List ℕ

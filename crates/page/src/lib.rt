@@ -20,10 +20,9 @@ pub const RECORD: usize = 31;
 // What every record starts with.
 const MARK: [u8; 2] = [0x2A, 0x2B];
 
-// What writing a record answers: acceptance, or what is refused (41, 42 and 51).
-#[derive(Drop)]
-pub enum Written {
-    Accepted,
+// Why a record is not written (41, 42 and 51).
+#[derive(Clone, Copy)]
+pub enum RecordError {
     Number,
     Code,
     Short,
@@ -37,38 +36,35 @@ pub struct Record {
     pub number: u64,
 }
 
-// What is found at an offset of a page: a record, its end, or what is refused (52 to 54).
-#[derive(Drop)]
-pub enum Found {
-    Record(Record),
-    End,
+// Why no record is found at an offset that is not the page's end (52 to 54).
+#[derive(Clone, Copy)]
+pub enum LookError {
     Cut,
     Mark,
     Content,
 }
 
-// The number of an answer of writing.
-pub fn written_number(answer: Written) -> u32
+// The number of an answer of writing: 0 where the record was written.
+pub fn written_number(answer: Result<(), RecordError>) -> u32
     ensures { result ≡ (says answer).number }
 {
     match answer {
-        Written::Accepted => 0,
-        Written::Number => 41,
-        Written::Code => 42,
-        Written::Short => 51,
+        Ok(()) => 0,
+        Err(RecordError::Number) => 41,
+        Err(RecordError::Code) => 42,
+        Err(RecordError::Short) => 51,
     }
 }
 
 // The number of a refusal of reading, and 0 for a record and for the end.
-pub fn found_number(found: Found) -> u32
+pub fn found_number(found: Result<Option<Record>, LookError>) -> u32
     ensures { result ≡ refusal_of found }
 {
     match found {
-        Found::Record(_) => 0,
-        Found::End => 0,
-        Found::Cut => 52,
-        Found::Mark => 53,
-        Found::Content => 54,
+        Ok(_) => 0,
+        Err(LookError::Cut) => 52,
+        Err(LookError::Mark) => 53,
+        Err(LookError::Content) => 54,
     }
 }
 
@@ -97,29 +93,40 @@ fn put_record(stretch: &mut [u8], kind: Kind, text: &[u8], number: u64) -> usize
 
 // Writes the record of a message at the start of the stretch of a page that starts at its offset, or refuses
 // and writes nothing.
-pub fn write_record(stretch: &mut [u8], kind: Kind, text: &[u8], number: u64) -> Written
+pub fn write_record(
+    stretch: &mut [u8],
+    kind: Kind,
+    text: &[u8],
+    number: u64,
+) -> Result<(), RecordError>
     ensures { leaves result stretch.new ≡ writing kind text.now number stretch.old }
 {
     if number == 0 {
-        return Written::Number;
+        return Err(RecordError::Number);
     }
     if number > entitlements::LARGEST {
-        return Written::Number;
+        return Err(RecordError::Number);
     }
     let read = halves::code_in(text);
     let Code::Read(_) = read else {
-        return Written::Code;
+        return Err(RecordError::Code);
     };
     if stretch.len() < RECORD {
-        return Written::Short;
+        return Err(RecordError::Short);
     }
     put_record(stretch, kind, text, number);
-    Written::Accepted
+    Ok(())
 }
 
 // Writes the record of a message at an offset of a page, or refuses and writes nothing. Past the page's end
 // the stretch is empty.
-pub fn write_at(page: &mut [u8], offset: usize, kind: Kind, text: &[u8], number: u64) -> Written
+pub fn write_at(
+    page: &mut [u8],
+    offset: usize,
+    kind: Kind,
+    text: &[u8],
+    number: u64,
+) -> Result<(), RecordError>
     ensures { leaves result page.new ≡ writing_at page.old offset kind text.now number }
 {
     if page.len() < offset {
@@ -142,20 +149,7 @@ fn number_in(text: &[u8]) -> u64
 fn same_as(earlier: &[u8], text: &[u8]) -> bool
     ensures { result ≡ same_as earlier.now text.now }
 {
-    if earlier.len() != 20 {
-        return false;
-    }
-    if text.len() != 20 {
-        return false;
-    }
-    let mut i = 0;
-    while i < 20 {
-        if earlier[i] != text[i] {
-            return false;
-        }
-        i += 1;
-    }
-    true
+    earlier.len() == 20 && text == earlier
 }
 
 // The code of a text: what is known of an earlier one that is the same, or what reading it says.
@@ -169,59 +163,65 @@ fn code_by(text: &[u8], earlier: &[u8], known: Halves) -> Code
 }
 
 // What the number and the code of a record of a kind are.
-fn content_by(kind: Kind, stretch: &[u8], earlier: &[u8], known: Halves) -> Found
+fn content_by(
+    kind: Kind,
+    stretch: &[u8],
+    earlier: &[u8],
+    known: Halves,
+) -> Result<Option<Record>, LookError>
     requires { record_length ≤ length stretch.now }
     ensures { result ≡ content_with (code_by earlier.now known) kind stretch.now }
 {
     let number = number_in(&stretch[23..31]);
     if number == 0 {
-        return Found::Content;
+        return Err(LookError::Content);
     }
     let read = code_by(&stretch[3..23], earlier, known);
     let Code::Read(code) = read else {
-        return Found::Content;
+        return Err(LookError::Content);
     };
-    Found::Record(Record { kind, code, number })
+    Ok(Some(Record { kind, code, number }))
 }
 
 // What is found at the start of a stretch that goes to the page's end.
-fn found_by(stretch: &[u8], earlier: &[u8], known: Halves) -> Found
+fn found_by(stretch: &[u8], earlier: &[u8], known: Halves) -> Result<Option<Record>, LookError>
     ensures { result ≡ found_with (code_by earlier.now known) stretch.now }
 {
     if stretch.len() < RECORD {
-        return Found::Cut;
+        return Err(LookError::Cut);
     }
-    if stretch[0] != 0x2A {
-        return Found::Mark;
+    if !stretch.starts_with(&MARK) {
+        return Err(LookError::Mark);
     }
-    if stretch[1] != 0x2B {
-        return Found::Mark;
+    let letter = stretch[2];
+    match letter {
+        b'A' => content_by(Kind::Activate, stretch, earlier, known),
+        b'C' => content_by(Kind::Cancel, stretch, earlier, known),
+        _ => Err(LookError::Content),
     }
-    if stretch[2] == b'A' {
-        return content_by(Kind::Activate, stretch, earlier, known);
-    }
-    if stretch[2] == b'C' {
-        return content_by(Kind::Cancel, stretch, earlier, known);
-    }
-    Found::Content
 }
 
 // What is found at an offset of a page by one who knows how an earlier code was read: a code of the same
-// twenty bytes is not read again.
-pub fn look_by(page: &[u8], offset: usize, earlier: &[u8], known: Halves) -> Found
+// twenty bytes is not read again. At the page's end there is no record.
+pub fn look_by(
+    page: &[u8],
+    offset: usize,
+    earlier: &[u8],
+    known: Halves,
+) -> Result<Option<Record>, LookError>
     ensures { result ≡ look_with (code_by earlier.now known) page.now offset }
 {
     if offset == page.len() {
-        return Found::End;
+        return Ok(None);
     }
     if page.len() < offset {
-        return Found::Cut;
+        return Err(LookError::Cut);
     }
     found_by(&page[offset..], earlier, known)
 }
 
-// What is found at an offset of a page.
-pub fn look(page: &[u8], offset: usize) -> Found
+// What is found at an offset of a page: a record, none at the page's end, or what is refused.
+pub fn look(page: &[u8], offset: usize) -> Result<Option<Record>, LookError>
     ensures { result ≡ look_at page.now offset }
 {
     look_by(page, offset, b"", Halves { high: 0, low: 0 })
@@ -231,8 +231,7 @@ pub fn look(page: &[u8], offset: usize) -> Found
 pub fn code_at(page: &[u8], offset: usize) -> &[u8]
     ensures { result.now ≡ code_at page.now offset }
 {
-    let found = look(page, offset);
-    let Found::Record(_) = found else {
+    let Ok(Some(_)) = look(page, offset) else {
         return &page[0..0];
     };
     &page[offset + 3..offset + 23]
