@@ -1,6 +1,6 @@
 -- The laws of the journal page: a record is 31 bytes; what writing answers and leaves, and what is found, case by case. Assumes nothing.
 use Rattle.std.specs.Prelude.{ℕ, ◌+◌, ◌-◌, ◌%◌, ◌^◌, ◌≤◌, ◌<◌, ◌≡◌, Bool, not, ◌&&◌, ◌||◌, eqb, length, get_or, take, drop, Some, None, Ok, Err}
-use Rattle.std.proofs.Common.{arith, ap, ap₂, sym, ◌∙◌, subst, true≢false, length-append, length-take, length-drop, drop_of_length-le, take_all}
+use Rattle.std.proofs.Common.{add-one, arith, ap, ap₂, sym, ◌∙◌, subst, true≢false, length-append, length-take, length-drop, drop_of_length-le, take_all, drop-cons}
 use Rattle.std.proofs.Math.Path.{refl}
 use Rattle.std.proofs.Math.Bool.{true, false, cond, or-true}
 use mathlib.Core.List.{List, [], ◌∷◌, ◌++◌, append-nil}
@@ -179,6 +179,13 @@ module _ (reads : List ℕ → Code) (kind : Kind) (stretch : List ℕ) (h : rec
 
 -- ---- what is found in a stretch
 
+-- The first two bytes are the mark, or one of them is not
+mark_two : (stretch : List ℕ) → record_length ≤ length stretch
+    → mark_wrong stretch ≡ not (eqb (get_or stretch 0 0) 42 && (eqb (get_or stretch 1 0) 43 && true))
+mark_two [] h = let none : ⊥ = omega arith in absurd none
+mark_two (a ∷ []) h = let none : ⊥ = omega arith in absurd none
+mark_two (a ∷ b ∷ stretch) h = refl
+
 module _ (reads : List ℕ → Code) (stretch : List ℕ) where
   pub found_cut : length stretch < record_length → found_with reads stretch ≡ Err look.Cut
   unfolding found_with
@@ -188,6 +195,14 @@ module _ (reads : List ℕ → Code) (stretch : List ℕ) where
     pub found_unmarked : mark_wrong stretch ≡ true → found_with reads stretch ≡ Err look.Mark
     unfolding found_with
     found_unmarked m = rw (le-ltb (length stretch) record_length h, m)
+
+    -- since its first byte is another, or its second
+    pub found_first : (get_or stretch 0 0 ≡ 42 → ⊥) → found_with reads stretch ≡ Err look.Mark
+    found_first n = found_unmarked (mark_two stretch h ∙ rw (ne_eqb (get_or stretch 0 0) 42 n) refl)
+
+    pub found_second : get_or stretch 0 0 ≡ 42 → (get_or stretch 1 0 ≡ 43 → ⊥) → found_with reads stretch ≡ Err look.Mark
+    found_second first n =
+        found_unmarked (mark_two stretch h ∙ rw (eq-eqb (get_or stretch 0 0) 42 first, ne_eqb (get_or stretch 1 0) 43 n) refl)
 
     module _ (m : mark_wrong stretch ≡ false) where
       -- what follows the mark, by the letter of the kind
@@ -294,6 +309,54 @@ look_known reads same page offset =
     (with_code (kind_of (letter_in stretch)) (number_in letters (number_text stretch)) c)))))
     (same (code_of stretch))
     ∙ ap (cond (eqb offset (length page)) (Ok None)) (found_reading stretch)
+
+-- ---- two texts of twenty bytes, byte by byte
+
+module _ (earlier text : List ℕ) where
+  -- texts of other lengths are not the same
+  pub same_first : (length earlier ≡ 20 → ⊥) → same_as earlier text ≡ false
+  same_first n = rw (ne_eqb (length earlier) 20 n)
+
+  pub same_second : length earlier ≡ 20 → (length text ≡ 20 → ⊥) → same_as earlier text ≡ false
+  same_second e n = rw (eq-eqb (length earlier) 20 e) (at (same_text earlier text) refl)
+    where
+      at : (b : Bool) → same_text earlier text ≡ b → b ≡ false
+      at true k = absurd (n (ap length (sym (same_text_lem earlier text k)) ∙ e))
+      at false k = refl
+
+  -- what is left of both from a position on answers as the whole does
+  pub record Comparing (i : ℕ) : Type 0 where
+    pub first : length earlier ≡ 20
+    pub second : length text ≡ 20
+    pub alike : same_as earlier text ≡ same_text (drop i earlier) (drop i text)
+
+  pub comparing_begin : length earlier ≡ 20 → length text ≡ 20 → Comparing 0
+  comparing_begin e k = record { first = e; second = k; alike = rw (eq-eqb (length earlier) 20 e) refl }
+
+  module _ {i : ℕ} (so : Comparing i) where
+    module _ (h : i < 20) where
+      within : (i < length earlier) × (i < length text)
+      within = (omega (arith, h, so.first), omega (arith, h, so.second))
+
+      -- two bytes that differ, and one byte in both
+      pub comparing_other : (get_or earlier i 0 ≡ get_or text i 0 → ⊥) → same_as earlier text ≡ false
+      comparing_other n =
+          so.alike ∙ rw (drop-cons earlier i 0 within.0, drop-cons text i 0 within.1, ne_eqb (get_or earlier i 0) (get_or text i 0) n) refl
+
+      pub comparing_more : get_or earlier i 0 ≡ get_or text i 0 → Comparing (i + 1)
+      comparing_more e = record {
+        first = so.first;
+        second = so.second;
+        alike =
+            so.alike
+            ∙ rw (drop-cons earlier i 0 within.0, drop-cons text i 0 within.1, eq-eqb (get_or earlier i 0) (get_or text i 0) e, add-one) refl;
+      }
+
+    -- the end of both
+    pub comparing_end : 20 ≤ i → same_as earlier text ≡ true
+    comparing_end h =
+        so.alike
+        ∙ rw (drop_of_length-le earlier {i = i} (omega (arith, h, so.first)), drop_of_length-le text {i = i} (omega (arith, h, so.second))) refl
 
 -- ---- two texts compared as slices
 
