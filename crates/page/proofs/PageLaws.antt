@@ -1,5 +1,5 @@
 -- The laws of the journal page: a record is 31 bytes; what writing answers and leaves, and what is found, case by case. Assumes nothing.
-use Rattle.std.specs.Prelude.{ℕ, ◌+◌, ◌-◌, ◌%◌, ◌^◌, ◌≤◌, ◌<◌, ◌≡◌, Bool, not, ◌&&◌, ◌||◌, eqb, length, get_or, take, drop, Some, None, Ok, Err}
+use Rattle.std.specs.Prelude.{ℕ, ◌+◌, ◌-◌, ◌%◌, ◌^◌, ◌≤◌, ◌<◌, ◌≡◌, Bool, not, ◌&&◌, ◌||◌, eqb, length, get_or, take, drop, Option, Some, None, Ok, Err}
 use Rattle.std.proofs.Common.{add-one, arith, ap, ap₂, sym, ◌∙◌, subst, true≢false, length-append, length-take, length-drop, drop_of_length-le, take_all, drop-cons}
 use Rattle.std.proofs.Math.Path.{refl}
 use Rattle.std.proofs.Math.Bool.{true, false, cond, or-true}
@@ -16,8 +16,6 @@ use Rattle.letters.specs.Alphabet.{first_other}
 use Rattle.letters.specs.Letters.{letters, spelled_in, number_in}
 use Rattle.letters.specs.Words.{Word, first_word, word_number}
 use Rattle.halves.specs.declared.Halves.{Halves}
-use Rattle.halves.specs.declared.Code.{Code}
-use Rattle.halves.specs.declared.Code.TheVariants.{Read, Refused}
 use Rattle.halves.specs.Halves.{halves_in, readable, code_in}
 use Rattle.halves.specs.HalvesLaws.{readable_code, code_refused, code_read}
 use Rattle.entitlements.specs.declared.Kind.{Kind}
@@ -53,11 +51,11 @@ module _ (kind : Kind) (text : List ℕ) (number : ℕ) (stretch : List ℕ) whe
 
   module _ (some : number ≡ 0 → ⊥) (most : number ≤ largest) where
     -- 42: the text is no code
-    pub writing_refused : code_in text ≡ Refused → writing kind text number stretch ≡ leaves (Err write.Code) stretch
+    pub writing_refused : code_in text ≡ None → writing kind text number stretch ≡ leaves (Err write.Code) stretch
     unfolding writing write_checks
     writing_refused e = rw (ne_eqb number 0 some, le-ltb largest number most, code_refused text e)
 
-    module _ {code : Halves} (read : code_in text ≡ Read code) where
+    module _ {code : Halves} (read : code_in text ≡ Some code) where
       -- 51: fewer than 31 bytes
       pub writing_short : length stretch < record_length → writing kind text number stretch ≡ leaves (Err write.Short) stretch
       unfolding writing write_checks
@@ -160,7 +158,7 @@ module _ (text : List ℕ) where
 pub eight_bytes : (stretch : List ℕ) → record_length ≤ length stretch → length (number_text stretch) ≡ 8
 eight_bytes stretch h = omega (arith, length-take 8 (drop 23 stretch), length-drop 23 stretch)
 
-module _ (reads : List ℕ → Code) (kind : Kind) (stretch : List ℕ) (h : record_length ≤ length stretch) where
+module _ (reads : List ℕ → Option Halves) (kind : Kind) (stretch : List ℕ) (h : record_length ≤ length stretch) where
   pub content_none : number_of (number_text stretch) ≡ 0 → content_with reads kind stretch ≡ Err look.Content
   content_none e = rw (number_none (number_text stretch) (eight_bytes stretch h) e)
 
@@ -170,10 +168,10 @@ module _ (reads : List ℕ → Code) (kind : Kind) (stretch : List ℕ) (h : rec
         let some = number_some (number_text stretch) (eight_bytes stretch h) n in
         rw some.0 (ap (λ (number : ℕ). with_code kind number (reads (code_of stretch))) (sym some.1))
 
-    pub content_refused : reads (code_of stretch) ≡ Refused → content_with reads kind stretch ≡ Err look.Content
+    pub content_refused : reads (code_of stretch) ≡ None → content_with reads kind stretch ≡ Err look.Content
     content_refused e = numbered ∙ ap (with_code kind (number_of (number_text stretch))) e
 
-    pub content_read : {code : Halves} → reads (code_of stretch) ≡ Read code
+    pub content_read : {code : Halves} → reads (code_of stretch) ≡ Some code
         → content_with reads kind stretch ≡ Ok (Some (record_by kind code (number_of (number_text stretch))))
     content_read e = numbered ∙ ap (with_code kind (number_of (number_text stretch))) e
 
@@ -186,7 +184,7 @@ mark_two [] h = let none : ⊥ = omega arith in absurd none
 mark_two (a ∷ []) h = let none : ⊥ = omega arith in absurd none
 mark_two (a ∷ b ∷ stretch) h = refl
 
-module _ (reads : List ℕ → Code) (stretch : List ℕ) where
+module _ (reads : List ℕ → Option Halves) (stretch : List ℕ) where
   pub found_cut : length stretch < record_length → found_with reads stretch ≡ Err look.Cut
   unfolding found_with
   found_cut h = rw (lt-ltb (length stretch) record_length h)
@@ -228,7 +226,7 @@ module _ (reads : List ℕ → Code) (stretch : List ℕ) where
 
 -- ---- what is found at an offset
 
-module _ (reads : List ℕ → Code) (page : List ℕ) (offset : ℕ) where
+module _ (reads : List ℕ → Option Halves) (page : List ℕ) (offset : ℕ) where
   pub look_end : offset ≡ length page → look_with reads page offset ≡ Ok None
   unfolding look_with
   look_end e = rw (eq-eqb offset (length page) e)
@@ -252,7 +250,7 @@ found_reading stretch =
   where
     of : (k r n : Bool)
         → cond (not k || n) (Err look.Content)
-        (with_code (kind_of (letter_in stretch)) (number_in letters (number_text stretch)) (cond r (Read (halves_in (code_of stretch))) Refused))
+        (with_code (kind_of (letter_in stretch)) (number_in letters (number_text stretch)) (cond r (Some (halves_in (code_of stretch))) None))
         ≡ cond (not k || (not r || n)) (Err look.Content) (Ok (Some (record_in stretch)))
     of true true true = refl
     of true true false = refl
@@ -273,7 +271,7 @@ same_text_lem (x ∷ a) (y ∷ b) e = at (eqb x y) refl e (same_text_lem a b)
 
 -- A text that is the same as the earlier one, and another
 module _ (earlier : List ℕ) (known : Halves) (text : List ℕ) where
-  pub known_same : same_as earlier text ≡ true → code_by earlier known text ≡ Read known
+  pub known_same : same_as earlier text ≡ true → code_by earlier known text ≡ Some known
   unfolding code_by
   known_same e = rw e
 
@@ -287,22 +285,22 @@ unfolding code_by
 nothing_known known text = refl
 
 -- and what is known of a text that was read is what reading the same says
-pub known_read : (earlier : List ℕ) (known : Halves) → code_in earlier ≡ Read known → (text : List ℕ) → code_by earlier known text ≡ code_in text
+pub known_read : (earlier : List ℕ) (known : Halves) → code_in earlier ≡ Some known → (text : List ℕ) → code_by earlier known text ≡ code_in text
 unfolding code_by
 known_read earlier known e text = at (eqb (length earlier) 20) (same_text earlier text) refl
   where
-    at : (l b : Bool) → same_text earlier text ≡ b → cond (l && b) (Read known) (code_in text) ≡ code_in text
+    at : (l b : Bool) → same_text earlier text ≡ b → cond (l && b) (Some known) (code_in text) ≡ code_in text
     at true true k = sym e ∙ ap code_in (same_text_lem earlier text k)
     at true false k = refl
     at false b k = refl
 
 -- So the same is found
-pub look_known : (reads : List ℕ → Code) → ((text : List ℕ) → reads text ≡ code_in text) → (page : List ℕ) (offset : ℕ)
+pub look_known : (reads : List ℕ → Option Halves) → ((text : List ℕ) → reads text ≡ code_in text) → (page : List ℕ) (offset : ℕ)
     → look_with reads page offset ≡ look_at page offset
 unfolding look_with look_at found_with
 look_known reads same page offset =
     let stretch : List ℕ = stretch_at page offset in
-    ap (λ (c : Code). cond (eqb offset (length page)) (Ok None)
+    ap (λ (c : Option Halves). cond (eqb offset (length page)) (Ok None)
     (cond (ltb (length stretch) record_length) (Err look.Cut)
     (cond (mark_wrong stretch) (Err look.Mark)
     (cond (not (is_kind (letter_in stretch)) || number_wrong (number_text stretch)) (Err look.Content)

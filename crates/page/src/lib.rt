@@ -11,7 +11,7 @@ ghost use Rattle.page.specs.Told.{number_of, content_with};
 ghost use Rattle.page.specs.Page.{record_length, record_of, says, leaves, writing, writing_at, look_at, refusal_of, code_at};
 
 use entitlements::Kind;
-use halves::{Code, Halves};
+use halves::Halves;
 use room::put;
 
 // The bytes of a record.
@@ -107,10 +107,9 @@ pub fn write_record(
     if number > entitlements::LARGEST {
         return Err(RecordError::Number);
     }
-    let read = halves::code_in(text);
-    let Code::Read(_) = read else {
+    if halves::code_in(text).is_none() {
         return Err(RecordError::Code);
-    };
+    }
     if stretch.len() < RECORD {
         return Err(RecordError::Short);
     }
@@ -153,11 +152,11 @@ fn same_as(earlier: &[u8], text: &[u8]) -> bool
 }
 
 // The code of a text: what is known of an earlier one that is the same, or what reading it says.
-fn code_by(text: &[u8], earlier: &[u8], known: Halves) -> Code
+fn code_by(text: &[u8], earlier: &[u8], known: Halves) -> Option<Halves>
     ensures { result ≡ code_by earlier.now known text.now }
 {
     if same_as(earlier, text) {
-        return Code::Read(known);
+        return Some(known);
     }
     halves::code_in(text)
 }
@@ -176,10 +175,7 @@ fn content_by(
     if number == 0 {
         return Err(LookError::Content);
     }
-    let read = code_by(&stretch[3..23], earlier, known);
-    let Code::Read(code) = read else {
-        return Err(LookError::Content);
-    };
+    let code = code_by(&stretch[3..23], earlier, known).ok_or(LookError::Content)?;
     Ok(Some(Record { kind, code, number }))
 }
 

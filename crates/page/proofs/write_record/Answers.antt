@@ -1,7 +1,10 @@
 -- `page::write_record` meets its contract, case by case: 41, 42, 51, or the record is put. Assumes nothing.
 use Prim.Native.Nat.{◌≤◌}
 use native.Mathlib.Omega.{arith}
-use mathlib.Core.Path.{sym, ◌∙◌}
+use borrow.Author.Rules.{rules}
+use mathlib.Core.Path.{◌≡◌, sym, ◌∙◌}
+use Rattle.std.specs.Prelude.{Some, None}
+use Rattle.halves.specs.declared.Halves.{Halves}
 use lib.ListN.{length}
 use Rattle.halves.specs.HalvesLaws.{code_read}
 use Rattle.page.specs.Page.{record_length}
@@ -24,31 +27,24 @@ returns-then-number-gt-LARGEST c =
     let stretch = asked.stretch.now in
     sym (writing_large kind text asked.number stretch c.if-number-gt-LARGEST.true)
 
-pub returns-in_default : goal.returns-in_default
-returns-in_default c =
+pub returns-then-is_none : goal.returns-then-is_none
+returns-then-is_none c =
     let asked = c.args in
-    let kind = asked.kind in
-    let text = asked.text.now in
-    let stretch = asked.stretch.now in
-    let refused = sym c.code_in-read.ensures ∙ c.in_default.is in
-    sym (writing_refused kind text asked.number stretch c.if-number-eq0.false c.if-number-gt-LARGEST.false refused)
+    let refused : c.code_in.result ≡ None = grind (arith, c.if-is_none.ensures) in
+    sym (writing_refused asked.kind asked.text.now asked.number asked.stretch.now c.if-number-eq0.false c.if-number-gt-LARGEST.false (sym c.code_in.ensures ∙ refused))
 
 pub returns-then-stretch-lt-RECORD : goal.returns-then-stretch-lt-RECORD
 returns-then-stretch-lt-RECORD c =
     let asked = c.args in
-    let kind = asked.kind in
-    let text = asked.text.now in
-    let stretch = asked.stretch.now in
-    let read = sym c.code_in-read.ensures ∙ c.in-Read.is in
-    sym (writing_short kind text asked.number stretch c.if-number-eq0.false c.if-number-gt-LARGEST.false read (omega (arith, c.if-stretch-lt-RECORD.true)))
+    let read : (h : Halves) × (c.code_in.result ≡ Some h) = search (rules, c.if-is_none.ensures) in
+    sym (writing_short asked.kind asked.text.now asked.number asked.stretch.now c.if-number-eq0.false c.if-number-gt-LARGEST.false (sym c.code_in.ensures ∙ read.1) (omega (arith, c.if-stretch-lt-RECORD.true)))
 
 pub returns : goal.returns
 returns c =
     let asked = c.args in
-    let kind = asked.kind in
     let text = asked.text.now in
-    let stretch = asked.stretch.now in
-    let read = sym c.code_in-read.ensures ∙ c.in-Read.is in
+    let found : (h : Halves) × (c.code_in.result ≡ Some h) = search (rules, c.if-is_none.ensures) in
+    let read = sym c.code_in.ensures ∙ found.1 in
     let twenty = code_twenty text (code_read text read).0 in
-    let long : record_length ≤ length stretch = omega (arith, c.if-stretch-lt-RECORD.false) in
-    sym (writing_put kind text asked.number stretch c.if-number-eq0.false c.if-number-gt-LARGEST.false read twenty long c.put_record.ensures)
+    let long : record_length ≤ length asked.stretch.now = omega (arith, c.if-stretch-lt-RECORD.false) in
+    sym (writing_put asked.kind text asked.number asked.stretch.now c.if-number-eq0.false c.if-number-gt-LARGEST.false read twenty long c.put_record.ensures)
