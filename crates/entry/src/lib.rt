@@ -8,19 +8,18 @@ ghost use Rattle.entry.specs.Stated.{stated_of, stated_after};
 
 use entitlements::Kind;
 use lines::starts;
-use numbers::{Long, long_at};
+use numbers::long_at;
 
-// A message: its kind, its number, and where in the line its text starts; the question for the total; or
-// a line not of this form.
+// What a line states: a message, by its kind, its number, and where in the line its text starts; or the
+// question for the total.
 #[derive(Drop)]
 pub enum Stated {
     Message(Kind, u64, usize),
     Total,
-    Bad,
 }
 
-// The message that a line states.
-pub fn message_of(line: &[u8]) -> Stated
+// What a line states; or none, where the line is not of this form.
+pub fn message_of(line: &[u8]) -> Option<Stated>
     ensures { result ≡ stated_of line.now }
 {
     if starts(line, b"A ") {
@@ -30,31 +29,26 @@ pub fn message_of(line: &[u8]) -> Stated
         return message_after(line, Kind::Cancel);
     }
     if asks(line) {
-        return Stated::Total;
+        return Some(Stated::Total);
     }
-    Stated::Bad
+    None
 }
 
 // Whether a line is the question for the total.
+#[tactic(auto, using(lines::specs::MessagesLaws::asking_as))]
 fn asks(line: &[u8]) -> bool
     ensures { result ≡ is_asking line.now }
 {
-    if line.len() != 1 {
-        return false;
-    }
-    line[0] == b'T'
+    line == b"T".as_slice()
 }
 
 // The message of a line that starts with the letter of a kind and a space.
-fn message_after(line: &[u8], kind: Kind) -> Stated
+fn message_after(line: &[u8], kind: Kind) -> Option<Stated>
     ensures { result ≡ stated_after kind line.now }
 {
-    let number = long_at(line, 2);
-    let Long::At(value, end) = number else {
-        return Stated::Bad;
-    };
+    let (number, end) = long_at(line, 2)?;
     if end < line.len() {
-        return Stated::Message(kind, value, end + 1);
+        return Some(Stated::Message(kind, number, end + 1));
     }
-    Stated::Bad
+    None
 }
