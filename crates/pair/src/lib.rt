@@ -20,6 +20,7 @@ pub fn overlap(a: u32, b: u32, c: u32, d: u32) -> bool
 }
 
 // Whether the extents of the edges from a to b and from c to d overlap in both directions, ends included.
+#[tactic(auto, unfolding(crate::specs::Pair::overlapping))]
 fn overlapping(a: Point, b: Point, c: Point, d: Point) -> bool
     ensures { result ≡ Pair·overlapping (edge a b) (edge c d) }
 {
@@ -34,6 +35,7 @@ fn both_left(a: Point, b: Point, c: Point, d: Point) -> bool
 }
 
 // Whether they lie both strictly on one side of it.
+#[tactic(auto, unfolding(crate::specs::Pair::aside_of))]
 fn aside_of(a: Point, b: Point, c: Point, d: Point) -> bool
     ensures { result ≡ aside_of (edge a b) (edge c d) }
 {
@@ -42,30 +44,18 @@ fn aside_of(a: Point, b: Point, c: Point, d: Point) -> bool
 
 // Whether two edges of which neither follows the other share a point, for all points. Comparisons come
 // first, products only where these leave it open.
+#[tactic(auto, unfolding(crate::specs::Pair::share_point))]
 pub fn share_point(a: Point, b: Point, c: Point, d: Point) -> bool
     ensures { result ≡ share_point (edge a b) (edge c d) }
 {
-    if !overlapping(a, b, c, d) {
-        return false;
-    }
-    if aside_of(a, b, c, d) {
-        return false;
-    }
-    !aside_of(c, d, a, b)
-}
-
-// Whether a is less than b, and c less than d.
-fn both_less(a: u32, b: u32, c: u32, d: u32) -> bool
-    ensures { result ≡ (ltb a b && ltb c d) }
-{
-    a < b && c < d
+    overlapping(a, b, c, d) && !aside_of(a, b, c, d) && !aside_of(c, d, a, b)
 }
 
 // Whether a and c lie both below b, or both above it.
 fn both_beside(a: u32, b: u32, c: u32) -> bool
     ensures { result ≡ both_beside a b c }
 {
-    both_less(a, b, c, b) || both_less(b, a, b, c)
+    (a < b && c < b) || (b < a && b < c)
 }
 
 // Whether a and c lie on the same side of b, by one direction or the other.
@@ -79,10 +69,11 @@ fn on_same_side(a: Point, b: Point, c: Point) -> bool
 fn goes_on(a: u32, b: u32, c: u32) -> bool
     ensures { result ≡ (ltb a b && ltb b c || ltb c b && ltb b a) }
 {
-    both_less(a, b, b, c) || both_less(c, b, b, a)
+    (a < b && b < c) || (c < b && b < a)
 }
 
 // Whether a, b and c lie on one line.
+#[tactic(auto, using(side::specs::SideLaws::not_right))]
 fn on_one_line(a: Point, b: Point, c: Point) -> bool
     ensures { result ≡ on_one_line a b c }
 {
@@ -94,10 +85,7 @@ fn on_one_line(a: Point, b: Point, c: Point) -> bool
 fn turns_back(a: Point, b: Point, c: Point) -> bool
     ensures { result ≡ (on_one_line a b c && on_same_side a b c) }
 {
-    if goes_on(a.lat.0, b.lat.0, c.lat.0) {
-        return false;
-    }
-    if goes_on(a.lon.0, b.lon.0, c.lon.0) {
+    if goes_on(a.lat.0, b.lat.0, c.lat.0) || goes_on(a.lon.0, b.lon.0, c.lon.0) {
         return false;
     }
     on_same_side(a, b, c) && on_one_line(a, b, c)
@@ -105,11 +93,9 @@ fn turns_back(a: Point, b: Point, c: Point) -> bool
 
 // Whether the edge from c to d follows the one from a to b and shares more than their corner with it, for
 // all points.
+#[tactic(auto, unfolding(crate::specs::Pair::share_more))]
 pub fn share_more(a: Point, b: Point, c: Point, d: Point) -> bool
     ensures { result ≡ share_more (edge a b) (edge c d) }
 {
-    if has_length(b, c) {
-        return false;
-    }
-    turns_back(a, b, d)
+    !has_length(b, c) && turns_back(a, b, d)
 }
