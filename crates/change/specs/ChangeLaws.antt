@@ -1,13 +1,12 @@
 -- The laws of what a message changes: an account after a step; the change does what processing does; and each of its cases.
 -- Assumes nothing.
-use Rattle.std.specs.Prelude.{ℕ, ◌≤◌, ◌<◌, ◌≡◌, Bool, cond, not, ◌||◌, List, eqb, leb}
+use Rattle.std.specs.Prelude.{ℕ, ◌≤◌, ◌<◌, ◌≡◌, Bool, cond, not, ◌||◌, List, eqb, leb, Some, None}
 use Rattle.std.proofs.Math.Path.{refl}
 use Rattle.std.proofs.Common.{ap, sym, ◌∙◌}
 use Rattle.std.proofs.Math.Bool.{true, false, or-true}
 use Rattle.std.proofs.Math.Dec.{ltb}
 use borrow.Author.Tests.{lt-ltb, le-ltb, eq-eqb, ne_eqb, le-leb, lt-leb}
 use Rattle.halves.specs.declared.Halves.{Halves}
-use Rattle.halves.specs.declared.Code.TheVariants.{Read, Refused}
 use Rattle.halves.specs.Halves.{halves_in, readable, code_in}
 use Rattle.halves.specs.HalvesLaws.{code_refused, code_read}
 use Rattle.places.specs.Places.{places, is_free, lowest_place}
@@ -153,18 +152,18 @@ module _ (kind : Kind) (account : Account) (text : List ℕ) (number : ℕ) wher
 
   module _ (some : number ≡ 0 → ⊥) (most : number ≤ largest) where
     -- 42, where the text is no code
-    pub change_refused : code_in text ≡ Refused → change_of kind account text number ≡ keeps answer.Code account.last account.total
+    pub change_refused : code_in text ≡ None → change_of kind account text number ≡ keeps answer.Code account.last account.total
     unfolding change_of
     change_refused e = rw (ne_eqb number 0 some, le-ltb largest number most, code_refused text e)
 
     -- "old"
-    pub change_old : {code : Halves} → code_in text ≡ Read code → number ≤ account.last
+    pub change_old : {code : Halves} → code_in text ≡ Some code → number ≤ account.last
         → change_of kind account text number ≡ keeps answer.Old account.last account.total
     unfolding change_of
     change_old e h = rw (ne_eqb number 0 some, le-ltb largest number most, (code_read text e).0, le-leb number account.last h)
 
     -- and then the message acts
-    pub change_acts : {code : Halves} → code_in text ≡ Read code → account.last < number
+    pub change_acts : {code : Halves} → code_in text ≡ Some code → account.last < number
         → change_of kind account text number ≡ acting_on kind account code number
     unfolding change_of
     change_acts e h =
@@ -172,7 +171,7 @@ module _ (kind : Kind) (account : Account) (text : List ℕ) (number : ℕ) wher
         (ap (λ (code : Halves). acting_on kind account code number) (code_read text e).1)
 
     -- where it is one, the message goes by its halves
-    pub change_read : {code : Halves} → code_in text ≡ Read code → change_of kind account text number ≡ change_by kind account code number
+    pub change_read : {code : Halves} → code_in text ≡ Some code → change_of kind account text number ≡ change_by kind account code number
     unfolding change_of change_at
     change_read e =
         rw (ne_eqb number 0 some, le-ltb largest number most, (code_read text e).0)

@@ -5,16 +5,16 @@
 #![tactic(auto)]
 
 ghost use Rattle.std.specs.Prelude.{◌≡◌};
-ghost use Rattle.entitlements.specs.Entitlements.{account_of, raised as Entitlements·raised, lowered as Entitlements·lowered};
+ghost use Rattle.entitlements.specs.Entitlements.{raised as Entitlements·raised, lowered as Entitlements·lowered};
 ghost use Rattle.change.specs.Change.{stays, stepped, keeps, activating, cancelling, acting_at, change_at, change_by, change_of};
 
-use entitlements::{Answer, Kind};
-use halves::{Code, Halves};
+use entitlements::{Account, Answer, Kind};
+use halves::Halves;
 use places::PLACES;
 
 // A step of an account: the last number and the total afterwards, and the place that is changed, with the
 // code and the activity that are put there. 256 is no place: nothing is put, and the code and the activity
-// are 0.
+// are 0. It is no Option: `put_step` asks for no place below 256, and so would compare it all the same.
 #[derive(Clone, Copy)]
 pub struct Step {
     pub last: u64,
@@ -44,22 +44,18 @@ pub fn stay(last: u64, total: u64) -> Step
     }
 }
 
-// Puts a step into an account by its arrays; the last number and the total are the step's.
-pub fn put_step(
-    high: &mut [u64; PLACES],
-    low: &mut [u64; PLACES],
-    active: &mut [u64; PLACES],
-    step: Step,
-)
-    ensures { account_of high.new low.new active.new step.last step.total ≡ stepped step (account_of high.old low.old active.old step.last step.total) }
+// Puts a step into an account.
+pub fn put_step(account: &mut Account, step: Step)
+    ensures { account.new ≡ stepped step account.old }
 {
     let place = step.place;
     if place < PLACES {
-        let code = step.code;
-        high[place] = code.high;
-        low[place] = code.low;
-        active[place] = step.active;
+        account.high[place] = step.code.high;
+        account.low[place] = step.code.low;
+        account.active[place] = step.active;
     }
+    account.last = step.last;
+    account.total = step.total;
 }
 
 // What changes where nothing is put.
@@ -77,19 +73,17 @@ fn raised(total: u64) -> u64
     ensures { result ≡ Entitlements·raised total }
 {
     if total < PLACES as u64 {
-        return total + 1;
+        total + 1
+    } else {
+        total
     }
-    total
 }
 
 // The total with one place less active.
 fn lowered(total: u64) -> u64
     ensures { result ≡ Entitlements·lowered total }
 {
-    if total == 0 {
-        return 0;
-    }
-    total - 1
+    total.saturating_sub(1)
 }
 
 // What an activation changes, by the place of its code.
@@ -154,66 +148,38 @@ fn act(
 }
 
 // What a message changes whose code was read and whose number is in range, by the place of its code, which
-// the caller looks up: 256 where the code is not active.
-pub fn change_at(
-    kind: Kind,
-    active: &[u64; PLACES],
-    last: u64,
-    total: u64,
-    place: usize,
-    code: Halves,
-    number: u64,
-) -> Change
-    ensures { result ≡ change_at kind active.now last total place code number }
+// the caller looks up: 256 where the code is not active. It is no Option, since `lowest_place`, `looked_up`
+// and the definition `change_at` answer and take 256, and theorems of `index` and `replaying` speak of them.
+pub fn change_at(kind: Kind, account: &Account, place: usize, code: Halves, number: u64) -> Change
+    ensures { result ≡ change_at kind account.now.active account.now.last account.now.total place code number }
 {
-    if number <= last {
-        return keep(Answer::Old, last, total);
+    if number <= account.last {
+        return keep(Answer::Old, account.last, account.total);
     }
-    act(kind, active, place, code, number, total)
+    act(kind, &account.active, place, code, number, account.total)
 }
 
 // The same with the place looked up, but for an "old" message, whose code may be anywhere.
-fn change_by<'a>(
-    kind: Kind,
-    high: &'a [u64; PLACES],
-    low: &'a [u64; PLACES],
-    active: &'a [u64; PLACES],
-    last: u64,
-    total: u64,
-    code: Halves,
-    number: u64,
-) -> Change
-    ensures { result ≡ change_by kind (account_of high.now low.now active.now last total) code number }
+fn change_by(kind: Kind, account: &Account, code: Halves, number: u64) -> Change
+    ensures { result ≡ change_by kind account.now code number }
 {
-    let mut place = PLACES;
-    if number > last {
-        place = places::code_place(high, low, active, code);
-    }
-    change_at(kind, active, last, total, place, code, number)
+    let place = if number > account.last {
+        places::code_place(&account.high, &account.low, &account.active, code)
+    } else {
+        PLACES
+    };
+    change_at(kind, account, place, code, number)
 }
 
 // What a message of any text and any number changes.
-pub fn change_of<'a>(
-    kind: Kind,
-    high: &'a [u64; PLACES],
-    low: &'a [u64; PLACES],
-    active: &'a [u64; PLACES],
-    last: u64,
-    total: u64,
-    text: &[u8],
-    number: u64,
-) -> Change
-    ensures { result ≡ change_of kind (account_of high.now low.now active.now last total) text.now number }
+pub fn change_of(kind: Kind, account: &Account, text: &[u8], number: u64) -> Change
+    ensures { result ≡ change_of kind account.now text.now number }
 {
-    if number == 0 {
-        return keep(Answer::Number, last, total);
+    if number == 0 || number > entitlements::LARGEST {
+        return keep(Answer::Number, account.last, account.total);
     }
-    if number > entitlements::LARGEST {
-        return keep(Answer::Number, last, total);
-    }
-    let read = halves::code_in(text);
-    let Code::Read(code) = read else {
-        return keep(Answer::Code, last, total);
+    let Some(code) = halves::code_in(text) else {
+        return keep(Answer::Code, account.last, account.total);
     };
-    change_by(kind, high, low, active, last, total, code, number)
+    change_by(kind, account, code, number)
 }

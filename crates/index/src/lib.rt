@@ -7,6 +7,7 @@ ghost use Rattle.std.specs.Prelude.{◌≡◌, not, ◌&&◌, eqb};
 ghost use Rattle.halves.specs.Halves.{halves_by};
 ghost use Rattle.index.specs.Index.{hash_of, looked_up, noted};
 
+use entitlements::Account;
 use halves::Halves;
 use places::PLACES;
 
@@ -25,29 +26,26 @@ fn hash(code: Halves) -> usize
 fn shares(active: u64, high: u64, low: u64, slot: usize) -> bool
     ensures { result ≡ (not (eqb active 0) && eqb (hash_of (halves_by high low)) slot) }
 {
-    if active == 0 {
-        return false;
-    }
-    hash(Halves { high, low }) == slot
+    active != 0 && hash(Halves { high, low }) == slot
 }
 
 // Looks up the place of a code: the one in its slot, where the code is active there, or else none. Where the
-// slot is crowded, all places are looked at.
-pub fn find<'a>(
-    high: &'a [u64; PLACES],
-    low: &'a [u64; PLACES],
-    active: &'a [u64; PLACES],
-    slots: &'a [u64; SLOTS],
-    code: Halves,
-) -> usize
-    ensures { result ≡ looked_up slots.now high.now low.now active.now code }
+// slot is crowded, all places are looked at. 256 for none, and no Option: so `looked_up` answers, of which
+// theorems of `index` and `replaying` speak.
+pub fn find(account: &Account, slots: &[u64; SLOTS], code: Halves) -> usize
+    ensures { result ≡ looked_up slots.now account.now.high account.now.low account.now.active code }
 {
     let slot = hash(code);
     let place = slots[slot] as usize;
     if place >= PLACES {
-        return places::code_place(high, low, active, code);
+        return places::code_place(&account.high, &account.low, &account.active, code);
     }
-    if places::has(active[place], high[place], low[place], code) {
+    if places::has(
+        account.active[place],
+        account.high[place],
+        account.low[place],
+        code,
+    ) {
         return place;
     }
     PLACES
@@ -55,22 +53,20 @@ pub fn find<'a>(
 
 // Notes that a code takes a place, before it is put there. Where a code of its hash is active, the slot becomes
 // crowded, and it stays so.
-pub fn note<'a>(
-    high: &'a [u64; PLACES],
-    low: &'a [u64; PLACES],
-    active: &'a [u64; PLACES],
-    slots: &mut [u64; SLOTS],
-    place: usize,
-    code: Halves,
-)
-    ensures { slots.new ≡ noted slots.old high.now low.now active.now place code }
+pub fn note(account: &Account, slots: &mut [u64; SLOTS], place: usize, code: Halves)
+    ensures { slots.new ≡ noted slots.old account.now.high account.now.low account.now.active place code }
 {
     let slot = hash(code);
     let other = slots[slot] as usize;
     if other >= PLACES {
         return;
     }
-    if shares(active[other], high[other], low[other], slot) {
+    if shares(
+        account.active[other],
+        account.high[other],
+        account.low[other],
+        slot,
+    ) {
         slots[slot] = PLACES as u64;
         return;
     }

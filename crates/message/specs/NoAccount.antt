@@ -1,6 +1,9 @@
--- 40 by the last number, by the total or by a place, and the loop that looks for such a place. Assumes nothing.
-use Rattle.std.specs.Prelude.{ℕ, ◌<◌, ◌≤◌, ◌≡◌, ◌⊎◌, Bool, true, false, ◌||◌, List, ltb}
-use Rattle.std.proofs.Common.{arith, sym, inl, inr}
+-- 40 by the last number, by the total or by a place, and the search for such a place. Assumes nothing.
+use Rattle.std.specs.Prelude.{ℕ, ◌<◌, ◌≤◌, ◌≡◌, ◌⊎◌, Bool, true, false, ◌||◌, ltb, length}
+use Rattle.std.specs.Bool.{MatchBool}
+use Rattle.std.specs.List.{range_with_len, AllWithin, HoldsAt}
+use Rattle.std.proofs.lemmas.List.FromFn.{length-range_with_len, get_or-range_with_len}
+use Rattle.std.proofs.Common.{arith, sym, subst, ◌∙◌, zero-add, inl, inr}
 use Rattle.std.proofs.Math.Path.{ap}
 use Rattle.std.proofs.Math.Bool.{not, or-false}
 use borrow.Author.Tests.{eq-eqb, ne_eqb, lt-ltb, le-ltb}
@@ -8,12 +11,8 @@ use Rattle.facts.specs.Tests.{either, either_left, either_right, neither, none_o
 use Rattle.places.specs.Places.{places, count_active}
 use Rattle.places.specs.PlacesLaws.{NoneBelow}
 use Rattle.entitlements.specs.declared.Account.{Account}
-use Rattle.entitlements.specs.Entitlements.{account_of, twice_at, no_code_at, somewhere, largest, miscounted, no_account}
+use Rattle.entitlements.specs.Entitlements.{twice_at, no_code_at, somewhere, largest, miscounted, no_account}
 use Rattle.entitlements.specs.Active.{at_somewhere, nowhere}
-
--- An account by its arrays: the last number and the total have no part in whether a place is refused
-abbrev pub unnumbered : List ℕ → List ℕ → List ℕ → Account
-unnumbered high low active = account_of high low active 0 0
 
 -- Whether a place has a code that is active at a lower one too, or a content that is no code
 abbrev pub bad_at : Account → ℕ → Bool
@@ -39,6 +38,26 @@ module _ (account : Account) where
     where
       apart : (k : ℕ) → k < places → (twice_at account k ≡ false) × (no_code_at account k ≡ false)
       apart k l = neither (twice_at account k) (no_code_at account k) (p.none k (omega arith))
+
+  -- So does the library's search among the numbers of the places
+  pub bad_any : (r : Bool)
+      → MatchBool r
+      ((k : ℕ) × (k < length (range_with_len 0 places)) × HoldsAt (λ i. bad_at account i ≡ true) (range_with_len 0 places) k)
+      (AllWithin (λ i. bad_at account i ≡ false) (range_with_len 0 places) 0 (length (range_with_len 0 places)))
+      → r ≡ bad_place account
+  bad_any true (k, h, bad) =
+      let here : k < places = omega (arith, h, length-range_with_len 0 places) in
+      sym (bad_found here (subst (λ (i : ℕ). bad_at account i ≡ true) (get_or-range_with_len 0 places k 0 here ∙ zero-add k) (bad 0)))
+  bad_any false good =
+      sym
+      (bad_none
+      (record {
+        within = omega arith;
+        none =
+            λ k h. subst (λ (i : ℕ). bad_at account i ≡ false) (get_or-range_with_len 0 places k 0 h ∙ zero-add k)
+            (good k 0 (omega arith) (omega (arith, h, length-range_with_len 0 places)));
+      })
+      (omega arith))
 
   -- 40, by the last number, by the total or by a place
   pub last_large : largest < account.last → no_account account ≡ true
