@@ -2,8 +2,7 @@
 -- RecallLaws.antt says for which slots this is what reading finds. Assumes nothing.
 use Rattle.std.specs.Prelude.{ℕ, ◌+◌, ◌-◌, ◌*◌, ◌%◌, ◌^◌, cond, List, [], length, take, drop, ◌==◌, nat_lt, slice_index, slice_set}
 use Rattle.halves.specs.Halves.{halves_by}
-use Rattle.page.specs.declared.Found.{Found}
-use Rattle.page.specs.Page.{record_length}
+use Rattle.page.specs.Page.{Found, record_length}
 use Rattle.page.specs.Known.{code_by, look_with}
 
 -- How many slots there are

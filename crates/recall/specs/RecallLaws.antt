@@ -1,15 +1,13 @@
 -- The laws of codes that were read before: what each slot has is true, and then what is found is what reading finds; remembering a record
 -- that was found keeps it true. Assumes nothing.
-use Rattle.std.specs.Prelude.{◌≡◌, ℕ, zero, suc, ◌+◌, ◌-◌, ◌^◌, ◌<◌, ◌≤◌, Bool, true, false, ◌⊎◌, List, [], ◌∷◌, length, take, drop, replicate, ◌==◌, ◌≢◌, slice_index, slice_index_or, slice_set, refl}
+use Rattle.std.specs.Prelude.{◌≡◌, ℕ, zero, suc, ◌+◌, ◌-◌, ◌^◌, ◌<◌, ◌≤◌, Bool, true, false, ◌⊎◌, List, [], ◌∷◌, length, take, drop, replicate, ◌==◌, ◌≢◌, slice_index, slice_index_or, slice_set, Some, Ok, refl}
 use Rattle.std.proofs.Common.{mod-eq_of_lt, arith, ap, sym, ◌∙◌, inl, inr, length-set, get_or-set_same, get_or-set_other, drop-drop, eq-eqb, ne_eqb, eqb-true, lt-ltb, le-ltb}
 use Rattle.std.proofs.lemmas.List.{length-replicate}
 use Rattle.std.proofs.lemmas.Bool.{eqb-false}
 use Rattle.halves.specs.declared.Halves.{Halves}
-use Rattle.halves.specs.declared.Code.TheVariants.{Read}
 use Rattle.halves.specs.Halves.{halves_by, code_in}
 use Rattle.halves.specs.HalvesLaws.{code_reads}
 use Rattle.page.specs.declared.Record.{Record}
-use Rattle.page.specs.declared.Found.TheVariants as found
 use Rattle.page.specs.Page.{record_length, code_of, stretch_at, look_at}
 use Rattle.page.specs.Known.{code_by}
 use Rattle.page.proofs.PageLaws.{nothing_known, known_read, look_known, look_recorded, look_within, recorded_right}
@@ -48,7 +46,7 @@ slot_below text = omega arith
 
 -- what a slot has: nothing, or a record whose code was read, with its halves
 abbrev Has : List ℕ → ℕ → ℕ → ℕ → Type 0
-Has page after high low = (after ≡ 0) ⊎ (code_in (earlier_at page after) ≡ Read (halves_by high low))
+Has page after high low = (after ≡ 0) ⊎ (code_in (earlier_at page after) ≡ Some (halves_by high low))
 
 -- as many slots as there are, and each has that
 pub record Recalls (page records high low : List ℕ) : Type 0 where
@@ -94,7 +92,7 @@ module _ {page records high low : List ℕ} (so : Recalls page records high low)
       of (inr e) text = known_read (earlier_at page after) known e text
 
   -- and a record that was found can be remembered
-  pub recalls_note : {r : Record} → look_at page offset ≡ found.Record r → length page < 2 ^ 64
+  pub recalls_note : {r : Record} → look_at page offset ≡ Ok (Some r) → length page < 2 ^ 64
       → Recalls page (remembered records page offset (after_of offset)) (remembered high page offset r.code.high) (remembered low page offset r.code.low)
   recalls_note {r} f few = record {
     many = length-set records slot (after_of offset) ∙ so.many;
@@ -112,7 +110,7 @@ module _ {page records high low : List ℕ} (so : Recalls page records high low)
       next : after_of offset ≡ offset + 1
       next = mod-eq_of_lt (omega (arith, few, look_within page offset f))
 
-      read : code_in (earlier_at page (offset + 1)) ≡ Read (halves_by r.code.high r.code.low)
+      read : code_in (earlier_at page (offset + 1)) ≡ Some (halves_by r.code.high r.code.low)
       read =
           let within = look_within page offset f in
           let recorded = look_recorded page offset f in
@@ -123,7 +121,7 @@ module _ {page records high low : List ℕ} (so : Recalls page records high low)
           ∙ ap (take 20) (sym (drop-drop 3 offset page)) in
           ap code_in same
           ∙ code_reads (code_of (stretch_at page offset)) (recorded_right recorded).read
-          ∙ ap (λ (s : Record). Read s.code) recorded.holds
+          ∙ ap (λ (s : Record). Some s.code) recorded.holds
 
       at : (s : ℕ) (b : Bool) → (s == slot) ≡ b
           → Has page (slice_index (slice_set records slot (after_of offset)) s) (slice_index (slice_set high slot r.code.high) s) (slice_index (slice_set low slot r.code.low) s)

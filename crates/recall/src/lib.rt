@@ -7,7 +7,7 @@ ghost use Rattle.std.specs.Prelude.{◌≡◌, ◌<◌, ◌≤◌, slice_index};
 ghost use Rattle.recall.specs.Recall.{slot_count, text_at, slot_of, earlier_at, recalled, remembered, after_of};
 
 use halves::Halves;
-use page::{Found, RECORD};
+use page::{LookError, RECORD, Record};
 
 // How many codes are remembered at most.
 pub const SLOTS: usize = 4096;
@@ -35,23 +35,12 @@ fn earlier_at(page: &[u8], after: u64) -> &[u8]
     text_at(page, (after - 1) as usize)
 }
 
-// A byte as a number that can be reckoned with.
-fn widened(byte: u8) -> usize
-    ensures value { result ≡ byte }
-    ensures upper_bound { result ≤ 255 }
-{
-    byte as usize
-}
-
-// The byte of a text at an index, and 0 past its end.
+// The byte of a text at an index as a number that can be reckoned with, and 0 past its end.
 fn byte_at(text: &[u8], i: usize) -> usize
     ensures value { result ≡ slice_index text.now i }
     ensures upper_bound { result ≤ 255 }
 {
-    if i < text.len() {
-        return widened(text[i]);
-    }
-    0
+    text.get(i).copied().unwrap_or(0) as usize
 }
 
 // The slot of a code's bytes: letters of the location and of the unit number, which tell most codes apart.
@@ -71,7 +60,7 @@ pub fn look<'a>(
     records: &'a [u64; SLOTS],
     high: &'a [u64; SLOTS],
     low: &'a [u64; SLOTS],
-) -> Found
+) -> Result<Option<Record>, LookError>
     ensures { result ≡ recalled records.now high.now low.now page.now offset }
 {
     let slot = slot_of(text_at(page, offset));
