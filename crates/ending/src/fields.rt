@@ -60,16 +60,7 @@ fn fields_at(level: u32, r: Rectangle, number: u32, p: Point) -> Fields
 fn above_31(f: Fields) -> bool
     ensures { result ≡ above31 f }
 {
-    if 31 < f.east {
-        return true;
-    }
-    if 31 < f.west {
-        return true;
-    }
-    if 31 < f.south {
-        return true;
-    }
-    31 < f.north
+    31 < f.east || 31 < f.west || 31 < f.south || 31 < f.north
 }
 
 // The fields of a unit by its extremes, its number and a cell with these sides.

@@ -9,12 +9,10 @@ use ground::COARSEST;
 pub fn scale_of(span: u32) -> u32
     ensures { result ≡ scale_of span }
 {
-    let mut level = FINEST_SCALE;
-    while COARSEST < level {
+    for level in (COARSEST + 1..=FINEST_SCALE).rev() {
         if span < ground::size(level) * 32 {
             return level;
         }
-        level -= 1;
     }
     COARSEST
 }
@@ -23,8 +21,5 @@ pub fn scale_of(span: u32) -> u32
 pub(crate) fn coarser(level: u32) -> u32
     ensures { result ≡ Unit·coarser level }
 {
-    if COARSEST < level {
-        return level - 1;
-    }
-    COARSEST
+    COARSEST.max(level.saturating_sub(1))
 }

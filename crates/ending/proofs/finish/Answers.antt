@@ -4,12 +4,12 @@ use Rattle.unit.specs.Frame.{finishing}
 use Rattle.unit.specs.FrameLaws.{finish_nowhere}
 use Rattle.ending.proofs.finish.Goals as goal
 
-pub returns-in-At : goal.returns-in-At
-returns-in-At c =
+pub returns-in-Some : goal.returns-in-Some
+returns-in-Some c =
     let a = c.args in
-    c.end_at.ensures ∙ ap (finishing a.room.now a.r a.number) (sym c.in-At.is)
+    c.end_at.ensures ∙ ap (finishing a.room.now a.r a.number) (sym c.in-Some.is)
 
-pub returns-in-Nowhere : goal.returns-in-Nowhere
-returns-in-Nowhere c =
+pub returns-in-None : goal.returns-in-None
+returns-in-None c =
     let a = c.args in
-    finish_nowhere a.room.now a.r a.number ∙ ap (finishing a.room.now a.r a.number) (sym c.in-Nowhere.is)
+    finish_nowhere a.room.now a.r a.number ∙ ap (finishing a.room.now a.r a.number) (sym c.in-None.is)

@@ -2,7 +2,6 @@
 use Prim.Native.Nat.{ℕ, ◌≤◌}
 use native.Mathlib.Omega.{arith}
 use mathlib.Core.Path.{sym, subst}
-use borrow.Author.Rules.{rules}
 use Rattle.ground.specs.Levels.{degree}
 use Rattle.ground.proofs.LevelsLaws.{size_most}
 use Rattle.ending.specs.Scaling.{scale_begin, scale_here, scale_before, scale_end}
@@ -13,16 +12,17 @@ loop-level-init c = scale_begin c.args.span
 
 pub overflow_mul-size : goal.overflow_mul-size
 overflow_mul-size c =
-    let most : c.size.result ≤ degree = let l = c.loop-level in subst (λ (k : ℕ). k ≤ degree) (sym c.size.ensures) (size_most l.level l.invariant.is) in
+    let l = c.loop-level in
+    let most : c.size.result ≤ degree = subst (λ (k : ℕ). k ≤ degree) (sym c.size.ensures) (size_most l.level l.invariant.is) in
     omega (arith, most)
 
 pub returns-then-span-size : goal.returns-then-span-size
 returns-then-span-size c =
-    scale_here c.loop-level.invariant (search rules) (omega (arith, c.size.ensures, c.if-span-size.true))
+    scale_here c.loop-level.invariant (omega arith) (omega (arith, c.size.ensures, c.if-span-size.true))
 
 pub loop-level-preserved : goal.loop-level-preserved
 loop-level-preserved c =
-    scale_before c.loop-level.invariant (search rules) (omega (arith, c.size.ensures, c.if-span-size.false))
+    scale_before c.loop-level.invariant (omega arith) (omega (arith, c.size.ensures, c.if-span-size.false))
 
 pub returns : goal.returns
-returns c = scale_end c.loop-level.invariant (search rules)
+returns c = scale_end c.loop-level.invariant (omega arith)

@@ -4,6 +4,3 @@ use Rattle.ending.proofs.scale.scale_of.Given as goal
 
 abbrev pub invariant-loop-level : goal.invariant-loop-level
 invariant-loop-level l = Tried l.span l.level
-
-abbrev pub decreases-loop-level : goal.decreases-loop-level
-decreases-loop-level l = l.level
