@@ -1,6 +1,6 @@
 -- What the plain road tries: a cell of levels 9 to 27 within the range, so that the test of the boundary is what document 01 says of it
 -- ("The cell inside"). Assumes nothing.
-use Rattle.std.specs.Prelude.{ℕ, ◌≤◌, ◌<◌, ◌≡◌, Bool, cond, ◌&&◌, List}
+use Rattle.std.specs.Prelude.{ℕ, ◌≤◌, ◌<◌, ◌≡◌, Bool, cond, ◌&&◌, List, Some, None}
 use Rattle.std.proofs.Common.{sym, ap, subst, ◌∙◌}
 use Rattle.ground.specs.declared.Rectangle.{Rectangle}
 use Rattle.ground.specs.declared.Cell.{Cell}
@@ -10,7 +10,6 @@ use Rattle.ground.proofs.CellsLaws.{is_cell_lem}
 use Rattle.ground.proofs.SidesLaws.{side_end}
 use Rattle.edge.specs.Edge.{Edge}
 use Rattle.boundary.specs.Boundary.{inside}
-use Rattle.chosen.specs.declared.Choice.TheVariants.{At, Nowhere}
 use Rattle.chosen.specs.Chosen.{try_south, try_west, try_level}
 use Rattle.plain.specs.Asked.{West}
 use Rattle.plain.specs.Turns.{SidesLeft, sides_begin}
@@ -35,11 +34,11 @@ pub south_tried : (es : List Edge) {level west south end : ℕ} → IsLevel leve
     → b ≡ (is_cell (record { level = level; west = lon west; south = lat south })
     && inside es (record { level = level; west = lon west; south = lat south }))
     → b ≡ t
-    → try_south es level west south ≡ cond t (At (record { level = level; west = lon west; south = lat south })) Nowhere
+    → try_south es level west south ≡ cond t (Some (record { level = level; west = lon west; south = lat south })) None
 south_tried es {level} {west} {south} l w is less most {b} {t} says e =
     let c : Cell = record { level = level; west = lon west; south = lat south } in
     let told : inside es c ≡ t = sym (says ∙ ap (λ (x : Bool). x && inside es c) (is_cell_lem c (tried_cell l w is less most))) ∙ e in
-    ap (λ (x : Bool). cond x (At c) Nowhere) told
+    ap (λ (x : Bool). cond x (Some c) None) told
 
 module _ (r : Rectangle) (es : List Edge) {level a : ℕ} (l : IsLevel level) where
   -- At first all south sides over the extent are to be tried

@@ -9,28 +9,25 @@ ghost use Rattle.chosen.specs.Chosen.{choose, Over};
 ghost use Rattle.unit.specs.Unit.{coding};
 ghost use Rattle.unit.specs.Frame.{leaves, Searched};
 
-use chosen::Choice;
-use ground::Rectangle;
-use unit::{Admission, Coded, Kind};
+use ground::{Cell, Rectangle};
+use unit::{Kind, Refusal};
 
 // The chosen cell over extents and a list of edges: levels 9 to 27 in turn.
-fn chosen(edges: &[u32], r: Rectangle) -> Choice
+fn chosen(edges: &[u32], r: Rectangle) -> Option<Cell>
     requires { Over r (edges_in edges.now) }
     ensures { result ≡ choose r (edges_in edges.now) }
 {
-    let mut level = ground::COARSEST;
-    while level <= ground::FINEST {
+    for level in ground::COARSEST..=ground::FINEST {
         let tried = search::try_level(edges, r, level);
-        if let Choice::At(c) = tried {
-            return Choice::At(c);
+        if let Some(c) = tried {
+            return Some(c);
         }
-        level += 1;
     }
-    Choice::Nowhere
+    None
 }
 
 // The chosen cell of a unit: its edges are listed in a room for 1,024 of them, and searched.
-fn chosen_of(numbers: &[u32], r: Rectangle) -> Choice
+fn chosen_of(numbers: &[u32], r: Rectangle) -> Option<Cell>
     requires { Searched numbers.now r }
     ensures { result ≡ choose r (boundary_of numbers.now) }
 {
@@ -42,11 +39,9 @@ fn chosen_of(numbers: &[u32], r: Rectangle) -> Choice
 
 // Codes a unit, for all inputs: writes bytes 0 to 19 of the room, or refuses and writes nothing. Its
 // cost grows with the corners times the cells of the levels tried that lie over the extents.
-pub fn code(room: &mut [u8], numbers: &[u32], kind: Kind, number: u32) -> Coded
+pub fn code(room: &mut [u8], numbers: &[u32], kind: Kind, number: u32) -> Result<(), Refusal>
     ensures { leaves result room.new ≡ coding room.old numbers.now kind number }
 {
-    match checking::admit(room.len(), numbers, kind, number) {
-        Admission::Refused(answer) => answer,
-        Admission::Over(r) => ending::finish(room, r, number, chosen_of(numbers, r)),
-    }
+    let r = checking::admit(room.len(), numbers, kind, number)?;
+    ending::finish(room, r, number, chosen_of(numbers, r))
 }

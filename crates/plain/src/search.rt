@@ -6,11 +6,10 @@ ghost use Rattle.boundary.specs.Listed.{edges_in};
 ghost use Rattle.chosen.specs.Chosen.{try_west, try_level, Over};
 ghost use Rattle.plain.specs.Asked.{West};
 
-use chosen::Choice;
 use ground::{Cell, Lat, Lon, Rectangle};
 
 // The first cell that is inside, of a level and a west side: south sides in turn.
-fn try_west(edges: &[u32], r: Rectangle, level: u32, west: Lon) -> Choice
+fn try_west(edges: &[u32], r: Rectangle, level: u32, west: Lon) -> Option<Cell>
     requires over { Over r (edges_in edges.now) }
     requires level { IsLevel level }
     requires west { West level west.0 }
@@ -25,15 +24,15 @@ fn try_west(edges: &[u32], r: Rectangle, level: u32, west: Lon) -> Choice
             south: Lat(south),
         };
         if boundary::inside(edges, c) {
-            return Choice::At(c);
+            return Some(c);
         }
         south = cells::high_side(level, south) as u32;
     }
-    Choice::Nowhere
+    None
 }
 
 // The first of a level: west sides in turn.
-pub(crate) fn try_level(edges: &[u32], r: Rectangle, level: u32) -> Choice
+pub(crate) fn try_level(edges: &[u32], r: Rectangle, level: u32) -> Option<Cell>
     requires over { Over r (edges_in edges.now) }
     requires level { IsLevel level }
     ensures { result ≡ try_level r (edges_in edges.now) level }
@@ -42,10 +41,10 @@ pub(crate) fn try_level(edges: &[u32], r: Rectangle, level: u32) -> Choice
     let mut west = cells::low_side(level, from.0);
     while west < r.east.0 {
         let tried = try_west(edges, r, level, Lon(west));
-        if let Choice::At(c) = tried {
-            return Choice::At(c);
+        if let Some(c) = tried {
+            return Some(c);
         }
         west = cells::high_side(level, west) as u32;
     }
-    Choice::Nowhere
+    None
 }

@@ -14,9 +14,9 @@ pub try_level-tried-requires : goal.try_level-tried-requires
 try_level-tried-requires c =
     record { over = c.requires; level = record { coarsest = c.loop-level.invariant.least; finest = omega (arith, c.loop-level-test.true) } }
 
-pub returns-in-At : goal.returns-in-At
-returns-in-At c =
-    sym (levels_found c.loop-level.invariant (omega (arith, c.loop-level-test.true)) (sym c.try_level-tried.ensures ∙ c.in-At.is))
+pub returns-in-Some : goal.returns-in-Some
+returns-in-Some c =
+    sym (levels_found c.loop-level.invariant (omega (arith, c.loop-level-test.true)) (sym c.try_level-tried.ensures ∙ c.in-Some.is))
 
 pub loop-level-preserved : goal.loop-level-preserved
 loop-level-preserved c =

@@ -21,9 +21,9 @@ try_west-tried-requires c =
     let ends : high_side c.args.level c.loop-west.west ≤ lon_end = side_end c.args.level c.requires.level 180 c.loop-west.invariant.is c.loop-west-test.true c.requires.over.east_end in
     record { over = c.requires.over; level = c.requires.level; west = record { is = c.loop-west.invariant.is; end = ends } }
 
-pub returns-in-At : goal.returns-in-At
-returns-in-At c =
-    sym (sides_found_lem c.requires.level c.loop-west.invariant c.loop-west-test.true (sym c.try_west-tried.ensures ∙ c.in-At.is))
+pub returns-in-Some : goal.returns-in-Some
+returns-in-Some c =
+    sym (sides_found_lem c.requires.level c.loop-west.invariant c.loop-west-test.true (sym c.try_west-tried.ensures ∙ c.in-Some.is))
 
 pub overflow_cast-west : goal.overflow_cast-west
 overflow_cast-west c =
