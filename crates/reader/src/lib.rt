@@ -1,34 +1,28 @@
 // Reading a code: from a text to its two numbers, and from the numbers to fields and rectangle.
 #![tactic(auto)]
 
-ghost use Rattle.std.specs.Prelude.{◌≡◌, ◌||◌, ltb};
+ghost use Rattle.std.specs.Prelude.{◌≡◌};
 ghost use Rattle.replies.specs.Replies.{run};
 ghost use Rattle.code.specs.Code.{past59, short_span, fields_in, span_checks, told_where, tells, reading_numbers, reading};
 
 use code::{Fields, ReadError, Reading};
 
-// Whether a is less than b, or c than d.
-fn either_less(a: u32, b: u32, c: u32, d: u32) -> bool
-    ensures { result ≡ (ltb a b || ltb c d) }
-{
-    a < b || c < d
-}
-
 // Whether minutes or seconds are above 59.
 fn past_59(bits: u32) -> bool
     ensures { result ≡ past59 bits }
 {
-    either_less(59, bits / 4096 % 64, 59, bits / 64 % 64)
+    59 < bits / 4096 % 64 || 59 < bits / 64 % 64
 }
 
 // Whether a span is too small to read.
 fn short_span(f: Fields) -> bool
     ensures { result ≡ short_span f }
 {
-    either_less(f.east, 2, f.north, 2) || either_less(f.west, 1, f.south, 1)
+    f.east < 2 || f.north < 2 || f.west < 1 || f.south < 1
 }
 
 // The fields that two numbers tell.
+#[tactic(auto, unfolding(code::specs::Code::fields_in))]
 fn fields_in(location: u64, rest: u64) -> Fields
     ensures { result ≡ fields_in location rest }
 {
@@ -44,6 +38,7 @@ fn fields_in(location: u64, rest: u64) -> Fields
 }
 
 // Reads fields: scale and spans are refused (17 and 18), or told.
+#[tactic(auto, unfolding(code::specs::Code::span_checks))]
 fn read_fields(fields: Fields) -> Result<Reading, ReadError>
     ensures { tells result ≡ told_where (run (span_checks fields)) fields }
 {
@@ -58,6 +53,7 @@ fn read_fields(fields: Fields) -> Result<Reading, ReadError>
 }
 
 // Reads two numbers: the bits of the location are refused (13 to 16), or the fields read.
+#[tactic(auto, unfolding(code::specs::Code::reading_numbers, code::specs::Code::location_checks))]
 pub fn read_numbers(location: u64, rest: u64) -> Result<Reading, ReadError>
     ensures { tells result ≡ reading_numbers location rest }
 {
@@ -66,16 +62,13 @@ pub fn read_numbers(location: u64, rest: u64) -> Result<Reading, ReadError>
     }
     let lat = location::lat_in(location);
     let lon = location::lon_in(location);
-    if either_less(0, lat / 0x400_0000, 0, lon / 0x400_0000) {
+    if 0 < lat / 0x400_0000 || 0 < lon / 0x400_0000 {
         return Err(ReadError::Hemisphere);
     }
-    if either_less(89, lat / 0x4_0000, 179, lon / 0x4_0000) {
+    if 89 < lat / 0x4_0000 || 179 < lon / 0x4_0000 {
         return Err(ReadError::Degrees);
     }
-    if past_59(lat) {
-        return Err(ReadError::Sixty);
-    }
-    if past_59(lon) {
+    if past_59(lat) || past_59(lon) {
         return Err(ReadError::Sixty);
     }
     read_fields(fields_in(location, rest))

@@ -27,16 +27,14 @@ fn no_point(p: Point) -> bool
 fn no_spans(f: Fields) -> bool
     ensures { result ≡ no_spans f }
 {
-    if code::outside(2, 31, f.east) {
-        return true;
-    }
-    if code::outside(2, 31, f.north) {
-        return true;
-    }
-    code::outside(1, 31, f.west) || code::outside(1, 31, f.south)
+    code::outside(2, 31, f.east)
+        || code::outside(2, 31, f.north)
+        || code::outside(1, 31, f.west)
+        || code::outside(1, 31, f.south)
 }
 
 // The scale, the spans and the unit number of fields that passed, as one number of nine letters.
+#[tactic(auto, unfolding(code::specs::Code::rest_of))]
 fn rest_of(f: Fields) -> u64
     requires { Good f }
     ensures { result ≡ rest_of f }
@@ -46,6 +44,7 @@ fn rest_of(f: Fields) -> u64
 }
 
 // Whether a code can have such fields: what is refused (22 to 25), or acceptance.
+#[tactic(auto, unfolding(code::specs::Code::field_checks))]
 fn checks(f: Fields) -> Result<(), WriteError>
     ensures { says result ≡ run (field_checks f) }
 {

@@ -1,6 +1,6 @@
 -- `reader::read` meets its contract: what the text spells, read, or why it spells nothing. Assumes nothing.
 use Rattle.std.specs.Prelude.{◌≡◌, refl, Err}
-use Rattle.std.proofs.Common.{ap, sym, ◌∙◌}
+use Rattle.std.proofs.Common.{ap, ◌∙◌}
 use Rattle.std.proofs.lemmas.Result.{err_from_is_err_and}
 use Rattle.spelling.specs.declared.Misspelled.{Misspelled}
 use Rattle.spelling.specs.declared.Misspelled.TheVariants.{Length, Letter}
