@@ -29,7 +29,7 @@ fn shape_checks(numbers: &[u32]) -> Result<(), Refusal>
         return Err(Refusal::Pairs);
     }
     let count = numbers.len() / 2;
-    if count < 3 || 1024 < count {
+    if !(3..=1024).contains(&count) {
         return Err(Refusal::Corners);
     }
     Ok(())
@@ -50,6 +50,7 @@ fn crossed_check(numbers: &[u32]) -> Result<(), Refusal>
 }
 
 // What checks 4, 5 and 31 say of at most 1,024 corners and their extremes.
+#[tactic(auto, using(corners::specs::Corners::corners_length, unit::specs::CheckLaws::span_above))]
 fn ground_checks(numbers: &[u32], r: Rectangle) -> Result<(), Refusal>
     requires numbers_len_bound { length numbers.now / 2 ≤ 1024 }
     requires r_value { r ≡ extremes_of (corners_of numbers.now) }
@@ -71,7 +72,7 @@ fn bad_number(kind: Kind, number: u32) -> bool
     ensures { result ≡ bad_number kind number }
 {
     match kind {
-        Kind::Building => number < 1 || 1048575 < number,
+        Kind::Building => code::outside(1, 1048575, number),
         Kind::Other => number != 0,
     }
 }

