@@ -1,6 +1,6 @@
 -- The laws of replay: the messages from an offset on, record by record; a record is sent as `change` changes the account; and the loop of
 -- `replay`, where what is done so far, with what is left of the page, is the whole. Assumes nothing.
-use Rattle.std.specs.Prelude.{◌≡◌, ℕ, zero, suc, ◌+◌, ◌-◌, ◌*◌, ◌/◌, ◌%◌, ◌^◌, ◌<◌, ◌≤◌, Bool, true, false, cond, List, [], ◌∷◌, length, ◌==◌}
+use Rattle.std.specs.Prelude.{◌≡◌, ℕ, zero, suc, ◌+◌, ◌-◌, ◌*◌, ◌/◌, ◌%◌, ◌^◌, ◌<◌, ◌≤◌, Bool, true, false, cond, List, [], ◌∷◌, length, ◌==◌, Some, None, Ok, Err}
 use Rattle.std.proofs.Common.{mod-eq_of_lt, arith, sym, ◌∙◌, subst}
 use Rattle.std.proofs.Math.Path.{refl, ap, ap₂}
 use Rattle.facts.specs.Texts.{bytes, same_text}
@@ -17,10 +17,9 @@ use Rattle.change.specs.declared.Change.{Change}
 use Rattle.change.specs.Change.{makes, change_at, change_by}
 use Rattle.change.specs.ChangeLaws.{change_processing, change_read}
 use Rattle.history.specs.History.{Message, send, after, Sent, sent_by, sent, one, times}
-use Rattle.page.specs.declared.Found.{Found}
-use Rattle.page.specs.declared.Found.TheVariants as found
+use Rattle.page.specs.declared.LookError.TheVariants as look
 use Rattle.page.specs.declared.Record.{Record}
-use Rattle.page.specs.Page.{record_length, stretch_at, look_at, refusal_of}
+use Rattle.page.specs.Page.{Found, record_length, stretch_at, look_at, refusal_of}
 use Rattle.page.proofs.PageLaws.{look_recorded, look_within, recorded_right}
 use Rattle.recall.specs.Recall.{recalled, remembered, after_of}
 use Rattle.recall.specs.RecallLaws.{Recalls, empty_slots, recalls_begin, recalled_look, recalls_note}
@@ -37,7 +36,7 @@ left_from page offset = messages_from ((length page - offset) / record_length) p
 
 module _ (page : List ℕ) (offset : ℕ) where
   -- a record's, and then those after it
-  pub left_more : {r : Record} → look_at page offset ≡ found.Record r
+  pub left_more : {r : Record} → look_at page offset ≡ Ok (Some r)
       → left_from page offset ≡ message_in (stretch_at page offset) ∷ left_from page (offset + record_length)
   unfolding messages_from
   left_more f =
@@ -71,15 +70,15 @@ messages_most (suc n) page offset =
     at (look_at page offset) (message_in (stretch_at page offset)) (messages_from n page (offset + record_length)) (messages_most n page (offset + record_length))
   where
     at : (f : Found) (m : Message) (later : List Message) → length later ≤ n → length (as_found f m later) ≤ suc n
-    at (found.Record r) m later h = omega arith
-    at found.End m later h = omega arith
-    at found.Cut m later h = omega arith
-    at found.Mark m later h = omega arith
-    at found.Content m later h = omega arith
+    at (Ok (Some r)) m later h = omega arith
+    at (Ok None) m later h = omega arith
+    at (Err look.Cut) m later h = omega arith
+    at (Err look.Mark) m later h = omega arith
+    at (Err look.Content) m later h = omega arith
 
 -- ---- a record is sent as `change` changes the account
 
-pub record_sent : (page : List ℕ) (offset : ℕ) {r : Record} {account : Account} → look_at page offset ≡ found.Record r → Sound account
+pub record_sent : (page : List ℕ) (offset : ℕ) {r : Record} {account : Account} → look_at page offset ≡ Ok (Some r) → Sound account
     → send account (message_in (stretch_at page offset)) ≡ makes (change_by r.kind account r.code r.number) account
 record_sent page offset {r} {account} f sound =
     let m : Message = message_in (stretch_at page offset) in
@@ -237,8 +236,8 @@ replaying_begin page h k e =
 module _ {page slots read highs lows : List ℕ} {account : Account} {counts : Counts} {offset : ℕ} {here : Found}
     (so : Replaying page slots read highs lows account counts offset here) where
   -- a record further
-  module _ {r : Record} (e : here ≡ found.Record r) where
-    at_record : look_at page offset ≡ found.Record r
+  module _ {r : Record} (e : here ≡ Ok (Some r)) where
+    at_record : look_at page offset ≡ Ok (Some r)
     at_record = sym so.found ∙ e
 
     pub replaying_room : offset + record_length ≤ length page

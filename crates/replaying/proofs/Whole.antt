@@ -1,6 +1,6 @@
 -- What replay of a page is: it stops where no record is, which at a clean end is the page's length; and the page that records of messages
 -- make end to end is replayed as these messages, so that a journal and its replay give the account of sending them. Assumes nothing.
-use Rattle.std.specs.Prelude.{◌≡◌, ℕ, zero, suc, ◌+◌, ◌-◌, ◌*◌, ◌/◌, ◌<◌, ◌≤◌, Bool, true, false, cond, List, [], ◌∷◌, ◌++◌, length, ◌==◌, nat_lt, refl}
+use Rattle.std.specs.Prelude.{◌≡◌, ℕ, zero, suc, ◌+◌, ◌-◌, ◌*◌, ◌/◌, ◌<◌, ◌≤◌, Bool, true, false, cond, List, [], ◌∷◌, ◌++◌, length, ◌==◌, nat_lt, refl, Some, None, Ok, Err}
 use Rattle.std.proofs.Common.{arith, ◌∙◌, true≢false, append-nil, append_assoc, length-append, drop_at, eqb-true, eq-eqb}
 use Rattle.std.proofs.Math.Path.{ap, ap₂, sym}
 use Rattle.facts.specs.Lists.{Each}
@@ -9,9 +9,8 @@ use Rattle.letters.specs.Letters.{letters, number_in}
 use Rattle.entitlements.specs.declared.Kind.{Kind}
 use Rattle.entitlements.specs.Entitlements.{largest, empty, kind_of, kind_letter}
 use Rattle.history.specs.History.{Message, after, sent}
-use Rattle.page.specs.declared.Found.{Found}
-use Rattle.page.specs.declared.Found.TheVariants as found
-use Rattle.page.specs.Page.{record_length, record_of, code_of, number_text, stretch_at, mark_wrong, content_wrong, record_in, found_in, look_at, refusal_of}
+use Rattle.page.specs.declared.LookError.TheVariants as look
+use Rattle.page.specs.Page.{Found, record_length, record_of, code_of, number_text, stretch_at, mark_wrong, content_wrong, record_in, found_in, look_at, refusal_of}
 use Rattle.page.proofs.PageLaws.{record_length_lem, code_twenty, is_record, look_within}
 use Rattle.page.proofs.Reverse.{Writable, look_stretch, record_holds, record_found_lem}
 use Rattle.replaying.specs.Replay.{message_in, as_found, messages_from, messages_of, stop_of, counts_of, replayed_by, replayed}
@@ -26,8 +25,8 @@ look_ends page offset n e =
     at (offset == length page) (nat_lt (length (stretch_at page offset)) record_length) (mark_wrong (stretch_at page offset)) (content_wrong (stretch_at page offset)) refl n e
   where
     at : (b c m w : Bool) → (offset == length page) ≡ b
-        → is_record (cond b found.End (cond c found.Cut (cond m found.Mark (cond w found.Content (found.Record (record_in (stretch_at page offset))))))) ≡ false
-        → refusal_of (cond b found.End (cond c found.Cut (cond m found.Mark (cond w found.Content (found.Record (record_in (stretch_at page offset))))))) ≡ 0
+        → is_record (cond b (Ok None) (cond c (Err look.Cut) (cond m (Err look.Mark) (cond w (Err look.Content) (Ok (Some (record_in (stretch_at page offset)))))))) ≡ false
+        → refusal_of (cond b (Ok None) (cond c (Err look.Cut) (cond m (Err look.Mark) (cond w (Err look.Content) (Ok (Some (record_in (stretch_at page offset)))))))) ≡ 0
         → offset ≡ length page
     at true c m w k n e = eqb-true offset (length page) k
     at false true m w k n e = let none : ⊥ = omega (arith, e) in absurd none
@@ -44,11 +43,9 @@ too_few : (page : List ℕ) (offset : ℕ) → length page < offset + record_len
 too_few page offset h = at (look_at page offset) refl
   where
     at : (f : Found) → look_at page offset ≡ f → is_record f ≡ false
-    at (found.Record r) e = let none : ⊥ = omega (arith, h, look_within page offset e) in absurd none
-    at found.End e = refl
-    at found.Cut e = refl
-    at found.Mark e = refl
-    at found.Content e = refl
+    at (Ok (Some r)) e = let none : ⊥ = omega (arith, h, look_within page offset e) in absurd none
+    at (Ok None) e = refl
+    at (Err f) e = refl
 
 -- No record is found after the messages, where there is room for no more than were looked for
 none_after : (n : ℕ) (page : List ℕ) (offset : ℕ) → (length page - offset) / record_length ≤ n → is_record (look_at page (stop_from page n offset)) ≡ false
@@ -64,12 +61,12 @@ none_after (suc n) page offset h =
     at : (f : Found) → look_at page offset ≡ f
         → (offset + record_length ≤ length page → is_record (look_at page (stop_from page n (offset + record_length))) ≡ false)
         → is_record (look_at page (offset + record_length * length (as_found f (message_in (stretch_at page offset)) (messages_from n page (offset + record_length))))) ≡ false
-    at (found.Record r) e later =
+    at (Ok (Some r)) e later =
         ap (λ (o : ℕ). is_record (look_at page o)) (omega arith) ∙ later (look_within page offset e)
-    at found.End e later = here (ap is_record e)
-    at found.Cut e later = here (ap is_record e)
-    at found.Mark e later = here (ap is_record e)
-    at found.Content e later = here (ap is_record e)
+    at (Ok None) e later = here (ap is_record e)
+    at (Err look.Cut) e later = here (ap is_record e)
+    at (Err look.Mark) e later = here (ap is_record e)
+    at (Err look.Content) e later = here (ap is_record e)
 
 module _ (page : List ℕ) where
   -- "Replay stops at the first 52, 53 or 54", or ends at the end: no record is found at the offset that it tells
@@ -84,7 +81,7 @@ module _ (page : List ℕ) where
 -- ---- the page of messages
 
 -- at the end there is the end
-look_at_end : (page : List ℕ) (offset : ℕ) → offset ≡ length page → look_at page offset ≡ found.End
+look_at_end : (page : List ℕ) (offset : ℕ) → offset ≡ length page → look_at page offset ≡ Ok None
 unfolding look_at
 look_at_end page offset e = rw (eq-eqb offset (length page) e)
 

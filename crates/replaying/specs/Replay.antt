@@ -1,14 +1,13 @@
 -- Replay of a journal page (document 02, request 6), in the request's words: the messages of a page, where they stop, and the account and
 -- the count of each answer that sending them one by one from an empty account gives. Assumes nothing.
-use Rattle.std.specs.Prelude.{ℕ, zero, suc, ◌+◌, ◌*◌, ◌/◌, cond, List, [], ◌∷◌, length, ◌==◌}
+use Rattle.std.specs.Prelude.{ℕ, zero, suc, ◌+◌, ◌*◌, ◌/◌, cond, List, [], ◌∷◌, length, ◌==◌, Some, None, Ok, Err}
 use Rattle.facts.specs.Texts.{bytes}
 use Rattle.letters.specs.Letters.{letters, number_in}
 use Rattle.entitlements.specs.declared.Account.{Account}
 use Rattle.entitlements.specs.Entitlements.{empty, kind_of}
 use Rattle.history.specs.History.{Message, after, Sent, sent, times}
-use Rattle.page.specs.declared.Found.{Found}
-use Rattle.page.specs.declared.Found.TheVariants as found
-use Rattle.page.specs.Page.{record_length, letter_in, code_of, number_text, stretch_at, look_at, refusal_of}
+use Rattle.page.specs.declared.LookError.TheVariants as look
+use Rattle.page.specs.Page.{Found, record_length, letter_in, code_of, number_text, stretch_at, look_at, refusal_of}
 use Rattle.replaying.specs.declared.Counts.{Counts}
 use Rattle.replaying.specs.declared.Replayed.{Replayed}
 
@@ -20,11 +19,11 @@ message_in stretch = record { kind = kind_of (letter_in stretch); text = code_of
 
 -- a message before others where a record is found, and none from there on where none is
 abbrev pub as_found : Found → Message → List Message → List Message
-as_found (found.Record r) m later = m ∷ later
-as_found found.End m later = []
-as_found found.Cut m later = []
-as_found found.Mark m later = []
-as_found found.Content m later = []
+as_found (Ok (Some r)) m later = m ∷ later
+as_found (Ok None) m later = []
+as_found (Err look.Cut) m later = []
+as_found (Err look.Mark) m later = []
+as_found (Err look.Content) m later = []
 
 -- the messages of records end to end from an offset on, of at most so many
 unfoldable pub messages_from : ℕ → List ℕ → ℕ → List Message
