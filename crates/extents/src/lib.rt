@@ -32,10 +32,8 @@ pub fn extremes(numbers: &[u32]) -> Rectangle
         south: lat,
         north: lat,
     };
-    let mut i = 1;
-    while i < count {
+    for i in 1..count {
         r = ground::widened(r, corner(numbers, i));
-        i += 1;
     }
     r
 }
@@ -58,9 +56,7 @@ fn lon_extent(r: Rectangle) -> u32
 pub fn span(r: Rectangle) -> u32
     ensures { result ≡ span_of r }
 {
-    let lat = lat_extent(r);
-    let lon = lon_extent(r);
-    if lat < lon { lon } else { lat }
+    lat_extent(r).max(lon_extent(r))
 }
 
 // Whether a point has a coordinate above its range.
@@ -75,12 +71,10 @@ pub fn first_above(numbers: &[u32]) -> usize
     ensures { result ≡ first_place above_range (corners_of numbers.now) }
 {
     let count = numbers.len() / 2;
-    let mut i = 0;
-    while i < count {
+    for i in 0..count {
         if above_range(corner(numbers, i)) {
             return i;
         }
-        i += 1;
     }
-    i
+    count
 }

@@ -1,11 +1,6 @@
 -- `extents::extremes` meets its contract: the rectangle holds the corners behind the loop. Assumes nothing.
-use Prim.Native.Nat.{◌-◌, ◌/◌}
-use lib.ListN.{length}
 use Rattle.unit.specs.Widening.{Reached}
 use Rattle.extents.proofs.extremes.Given as goal
 
 abbrev pub invariant-loop-i : goal.invariant-loop-i
 invariant-loop-i l = Reached l.numbers l.r l.i
-
-abbrev pub decreases-loop-i : goal.decreases-loop-i
-decreases-loop-i l = length l.numbers / 2 - l.i

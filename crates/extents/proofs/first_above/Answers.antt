@@ -5,16 +5,13 @@ use borrow.Author.Rules.{rules}
 use lib.ListN.{get_or}
 use Rattle.ground.specs.declared.Point.{Point}
 use Rattle.ground.specs.Levels.{lat, lon}
-use Rattle.facts.specs.Places.{begin, again, found, finish}
+use Rattle.facts.specs.Places.{again, found, finish}
 use Rattle.corners.specs.Corners.{corners_of, corners_length, corner_get}
 use Rattle.unit.specs.Unit.{above_range}
 use Rattle.extents.proofs.first_above.Goals as goal
 
 abbrev origin : Point
 origin = record { lat = lat 0; lon = lon 0 }
-
-pub loop-i-init : goal.loop-i-init
-loop-i-init c = begin
 
 pub returns-then-above_range : goal.returns-then-above_range
 returns-then-above_range c =
@@ -28,4 +25,6 @@ loop-i-preserved c =
 
 pub returns : goal.returns
 returns c =
-    finish c.loop-i.invariant (omega (arith, corners_length c.args.numbers.now))
+    let many = corners_length c.args.numbers.now in
+    let none = finish c.loop-i.invariant (omega (arith, many)) in
+    omega (arith, none, c.loop-i.invariant.within, many)

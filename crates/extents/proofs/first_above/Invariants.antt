@@ -1,6 +1,4 @@
 -- `extents::first_above` meets its contract: no corner before `i` is above its range. Assumes nothing.
-use Prim.Native.Nat.{◌-◌, ◌/◌}
-use lib.ListN.{length}
 use Rattle.facts.specs.Places.{NoneBefore}
 use Rattle.corners.specs.Corners.{corners_of}
 use Rattle.unit.specs.Unit.{above_range}
@@ -8,6 +6,3 @@ use Rattle.extents.proofs.first_above.Given as goal
 
 abbrev pub invariant-loop-i : goal.invariant-loop-i
 invariant-loop-i l = NoneBefore above_range (corners_of l.numbers) l.i
-
-abbrev pub decreases-loop-i : goal.decreases-loop-i
-decreases-loop-i l = length l.numbers / 2 - l.i
