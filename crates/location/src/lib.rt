@@ -20,6 +20,7 @@ const LOCATION_SIZE: u64 = ground::LOCATION_SIZE as u64;
 const DIRECTION_BITS: u32 = 27;
 
 // The 27 bits of an angle.
+#[tactic(auto, unfolding(crate::specs::Location::bits_of))]
 fn bits_of(angle: u32) -> u32
     ensures { result ≡ bits_of angle }
 {
@@ -30,6 +31,7 @@ fn bits_of(angle: u32) -> u32
 }
 
 // The angle that 27 bits tell.
+#[tactic(auto, unfolding(crate::specs::Location::angle_in))]
 fn angle_in(bits: u32) -> u64
     ensures { result ≡ angle_in bits }
 {
@@ -41,6 +43,7 @@ fn angle_in(bits: u32) -> u64
 }
 
 // The last n bits of two numbers, paired.
+#[tactic(auto, using(crate::specs::LocationLaws::paired_none, crate::specs::LocationLaws::paired_more, crate::specs::LocationLaws::paired_below))]
 fn pair(n: u32, a: u32, b: u32) -> u64
     requires { n ≤ direction_bits }
     ensures { result ≡ paired n a b }
@@ -52,6 +55,7 @@ fn pair(n: u32, a: u32, b: u32) -> u64
 }
 
 // The latter bit of each of the last three pairs.
+#[tactic(auto, unfolding(crate::specs::Location::latters))]
 fn latter_three(x: u64) -> u32
     ensures { result ≡ latters 3 x }
 {
@@ -73,6 +77,7 @@ fn unpair(x: u64) -> u32
 }
 
 // The 55 bits of a reference, the closing 1 among them.
+#[tactic(auto, using(crate::specs::LocationLaws::paired_below), unfolding(crate::specs::Location::location_of))]
 pub fn location_of(p: Point) -> u64
     ensures { result ≡ location_of p }
 {
@@ -94,6 +99,7 @@ pub fn lon_in(location: u64) -> u32
 }
 
 // The reference that a location tells, of whatever bits.
+#[tactic(auto, using(crate::specs::LocationLaws::angle_fits))]
 pub fn reference_in(location: u64) -> Point
     ensures { result ≡ reference_in location }
 {

@@ -31,6 +31,7 @@ fn ahead(from: u32, by: u64, end: u32) -> u32
 
 // The rectangle runs from the reference by W-1, E-1, S-1 and N-1 cells, and stops at 0, at 90° and
 // at 180°.
+#[tactic(auto, unfolding(code::specs::Code::rectangle_of))]
 pub fn rectangle_of(f: Fields) -> Rectangle
     ensures { result ≡ rectangle_of f }
 {
