@@ -20,6 +20,7 @@ fn span_cells(s: u32, from: u32, to: u32) -> u32
 }
 
 // The south-west corner of the location cell of a cell with these sides.
+#[tactic(auto, using(crate::specs::FieldsLaws::reference_own, crate::specs::FieldsLaws::reference_centre))]
 fn reference(c: Cell, sides: Rectangle) -> Point
     requires { sides ≡ sides_of c }
     ensures { result ≡ corner_of (location_cell c) }
@@ -40,6 +41,7 @@ fn reference(c: Cell, sides: Rectangle) -> Point
 }
 
 // The fields of a unit at a level, by its extremes, its number and its reference.
+#[tactic(auto, using(crate::specs::FieldsLaws::cells_size, crate::specs::FieldsLaws::fields_made))]
 fn fields_at(level: u32, r: Rectangle, number: u32, p: Point) -> Fields
     requires { IsLevel level }
     ensures { result ≡ fields_at level r number p }
@@ -64,6 +66,7 @@ fn above_31(f: Fields) -> bool
 }
 
 // The fields of a unit by its extremes, its number and a cell with these sides.
+#[tactic(auto, using(crate::specs::FieldsLaws::first_level, crate::specs::FieldsLaws::next_level), unfolding(unit::specs::Unit::fields_of, unit::specs::Unit::level_of))]
 pub(crate) fn fields(r: Rectangle, number: u32, c: Cell, sides: Rectangle) -> Fields
     requires { sides ≡ sides_of c }
     ensures { result ≡ fields_of r number c }
