@@ -10,7 +10,7 @@ use Rattle.lines.specs.Messages.{Message, message, asks_total, not_of_this_form,
 use Rattle.lines.specs.Answers.{always}
 use Rattle.lines.specs.Automaton.{Coming}
 use Rattle.lines.specs.Putting.{Putting, output_by}
-use Rattle.recording.specs.declared.Line.{Line}
+use Rattle.lines.specs.declared.Line.{Line}
 
 -- what writing a record says: the record, or a refusal
 abbrev pub reply_of : Said → List ℕ → Reply

@@ -1,6 +1,6 @@
 -- The laws of what is said of a line: one that is too long, one that states no message, and one that states a message, by what writing its
 -- record answers; and what is put for it. Assumes nothing.
-use Rattle.std.specs.Prelude.{◌≡◌, ℕ, ◌<◌, ◌≤◌, List, [], ◌++◌, length, drop, replicate, ◌≢◌}
+use Rattle.std.specs.Prelude.{Some, None, Ok, Err, ◌≡◌, ℕ, ◌<◌, ◌≤◌, List, [], ◌++◌, length, drop, replicate, ◌≢◌}
 use Rattle.std.proofs.Math.Path.{refl, sym, ap}
 use Rattle.std.proofs.Common.{◌∙◌, lt-ltb, le-ltb, eq-eqb}
 use mathlib.Core.List.{append-nil}
@@ -8,12 +8,11 @@ use Rattle.replies.specs.Replies.{Said, Outcome, run}
 use Rattle.room.specs.Room.{Put}
 use Rattle.room.specs.RoomLaws.{put_nothing}
 use Rattle.entitlements.specs.declared.Kind.{Kind}
-use Rattle.page.specs.declared.Written.{Written}
-use Rattle.page.specs.declared.Written.TheVariants as written
-use Rattle.page.specs.Page.{record_length, record_of, write_checks, writing, says, leaves}
+use Rattle.page.specs.declared.RecordError.TheVariants as write
+use Rattle.page.specs.Page.{Written, record_length, record_of, write_checks, writing, says, leaves}
 use Rattle.lines.specs.Lines.{Reply, coded, refused, reply_line, longest}
 use Rattle.lines.specs.Messages.{message_of}
-use Rattle.entry.specs.declared.Stated.TheVariants.{Message, Total, Bad}
+use Rattle.entry.specs.declared.Stated.TheVariants.{Message, Total}
 use Rattle.entry.specs.Stated.{stated_of}
 use Rattle.entry.specs.StatedLaws.{stated_bad, stated_total, stated_message}
 use Rattle.recording.specs.Recorded.{reply_of, record_said, form_said, said, as_record, as_told}
@@ -30,13 +29,13 @@ module _ (line : List ℕ) where
     unfolding said
     said_form = rw (le-ltb longest (length line) h)
 
-    pub said_bad : stated_of line ≡ Bad → said line ≡ refused 9 0
+    pub said_bad : stated_of line ≡ None → said line ≡ refused 9 0
     said_bad e = said_form ∙ ap form_said (stated_bad line e)
 
-    pub said_total : stated_of line ≡ Total → said line ≡ refused 9 0
+    pub said_total : stated_of line ≡ Some Total → said line ≡ refused 9 0
     said_total e = said_form ∙ ap form_said (stated_total line e)
 
-    pub said_message : {kind : Kind} {number at : ℕ} → stated_of line ≡ Message kind number at → said line ≡ record_said kind (drop at line) number
+    pub said_message : {kind : Kind} {number at : ℕ} → stated_of line ≡ Some (Message kind number at) → said line ≡ record_said kind (drop at line) number
     said_message {number = number} {at = at} e =
         let states = stated_message line e in
         said_form ∙ ap form_said states.says ∙ ap (λ (k : Kind). record_said k (drop at line) number) states.its
@@ -61,10 +60,10 @@ module _ (kind : Kind) (text : List ℕ) (number : ℕ) (answer : Written) {late
   record_refused n = ap (λ (s : Said). reply_of s (record_of kind text number)) (sym checked) ∙ of answer n
     where
       of : (a : Written) → ((says a).number ≢ 0) → reply_of (says a) (record_of kind text number) ≡ refused (says a).number 0
-      of written.Accepted n = absurd (n refl)
-      of written.Number n = refl
-      of written.Code n = refl
-      of written.Short n = refl
+      of (Ok done) n = absurd (n refl)
+      of (Err write.Number) n = refl
+      of (Err write.Code) n = refl
+      of (Err write.Short) n = refl
 
 -- ---- what is put for a line
 

@@ -15,12 +15,7 @@ ghost use Rattle.lines.specs.Automaton.{after};
 ghost use Rattle.lines.specs.Putting.{ended_by, last_by};
 ghost use Rattle.recording.specs.Recorded.{said, as_record, as_told, coming};
 
-// The line that comes in: its number, and how many of its bytes stand in the room.
-#[derive(Clone, Copy)]
-pub struct Line {
-    pub number: u64,
-    pub len: usize,
-}
+pub use lines::Line;
 
 // What a read leaves: the line that comes in then, and how many bytes the records and what is told have.
 #[derive(Drop)]
@@ -55,10 +50,8 @@ pub fn record_all(
         put: 0,
         told: 0,
     };
-    let mut i = 0;
-    while i < bytes.len() {
-        recorded = take_byte(recorded, bytes[i], room, out, told);
-        i += 1;
+    for byte in bytes {
+        recorded = take_byte(recorded, *byte, room, out, told);
     }
     recorded
 }

@@ -36,10 +36,13 @@ fn write_line(number: u64, line: &[u8], ends: Ends, out: &mut [u8], told: &mut [
         return refuse(number, 10, ends, told);
     }
     let stated = entry::message_of(line);
-    let Stated::Message(kind, message, start) = stated else {
-        return refuse(number, 9, ends, told);
-    };
-    write_message(number, kind, &line[start..], message, ends, out, told)
+    match stated {
+        Some(Stated::Message(kind, message, start)) => {
+            write_message(number, kind, &line[start..], message, ends, out, told)
+        }
+        Some(Stated::Total) => refuse(number, 9, ends, told),
+        None => refuse(number, 9, ends, told),
+    }
 }
 
 // Records a line that states a message.

@@ -6,8 +6,8 @@ use Rattle.output.specs.Taking.{taking_begin, taking_step, taking_end}
 use Rattle.recording.specs.Recorded.{said, coming}
 use Rattle.recording.proofs.record_all.Goals as goal
 
-pub loop-i-init : goal.loop-i-init
-loop-i-init c =
+pub loop-byte-init : goal.loop-byte-init
+loop-byte-init c =
     let asked = c.args in
     let start = coming asked.line asked.room.now in (
       refl,
@@ -17,9 +17,9 @@ loop-i-init c =
       taking_begin (always said) start asked.bytes.now asked.told.now,
     )
 
-pub loop-i-preserved : goal.loop-i-preserved
-loop-i-preserved c =
-    let here = c.loop-i in (
+pub loop-byte-preserved : goal.loop-byte-preserved
+loop-byte-preserved c =
+    let here = c.loop-byte in (
       search rules,
       search rules,
       search rules,
@@ -29,6 +29,6 @@ loop-i-preserved c =
 
 pub returns : goal.returns
 returns c =
-    let page = taking_end c.loop-i.invariant.3 (search rules) in
-    let tells = taking_end c.loop-i.invariant.4 (search rules) in
+    let page = taking_end c.loop-byte.invariant.3 (search rules) in
+    let tells = taking_end c.loop-byte.invariant.4 (search rules) in
     record { room_after = page.0; put = page.1; put_2 = tells.1 }
