@@ -1,5 +1,5 @@
 -- Leaps: the edges that are passed over are apart from an edge. Assumes nothing.
-use Rattle.std.specs.Prelude.{ℕ, ◌+◌, ◌*◌, ◌/◌, ◌≤◌, ◌<◌, max, ◌≡◌, refl, ◌⊎◌, true, false, List, length, get_or}
+use Rattle.std.specs.Prelude.{ℕ, Option, Some, None, ◌+◌, ◌*◌, ◌/◌, ◌≤◌, ◌<◌, max, ◌≡◌, refl, ◌⊎◌, true, false, List, length, get_or}
 use Rattle.std.proofs.Common.{arith, subst, inl, inr}
 use Rattle.facts.specs.Tests.{fails_left, fails_right}
 use Rattle.facts.specs.Numbers.{either_way}
@@ -13,6 +13,11 @@ use Rattle.crossed.specs.NearRows.{NearRow}
 -- The edges from one place to another are apart from an edge
 pub record Skipped (numbers : List ℕ) (e : Edge) (from to : ℕ) : Type 0 where
   pub apart : (y : ℕ) → from ≤ y → y < to → y < length numbers / 2 → overlapping e (edge_from numbers y) ≡ false
+
+-- A leap from one place to another finds the first edge there that is not apart, or that all of them are
+abbrev pub Leapt : List ℕ → Edge → ℕ → ℕ → Option ℕ → Type 0
+Leapt numbers e from to (Some j) = (from ≤ j) × ((j < to) × Skipped numbers e from j)
+Leapt numbers e from to None = Skipped numbers e from to
 
 -- The extents of two edges are apart where they do not overlap in a direction
 pub apart_along : (e f : Edge) (w : Way) → overlap (along w e.start) (along w e.end) (along w f.start) (along w f.end) ≡ false

@@ -53,6 +53,18 @@ module _ {numbers : List ℕ} {i : ℕ} where
           at (inl p) = apart_meeting numbers i y (s.apart y p m o)
           at (inr p) = b.passed y l p o
 
+  -- to past the last where all later ones are
+  pub between_last : {j : ℕ} → i < length numbers / 2 → Between numbers i j → Skipped numbers (edge_from numbers i) j (length numbers / 2)
+      → Between numbers i (length numbers / 2)
+  between_last {j} less b s = record { after = less; passed = passed }
+    where
+      passed : (y : ℕ) → i < y → y < length numbers / 2 → y < length numbers / 2 → meeting numbers i y ≡ false
+      passed y l m o = at (either_way j y)
+        where
+          at : (j ≤ y) ⊎ (y < j) → meeting numbers i y ≡ false
+          at (inl p) = apart_meeting numbers i y (s.apart y p m o)
+          at (inr p) = b.passed y l p o
+
   -- and goes on past one that does not meet, or past the last
   pub between_next : {j : ℕ} → Between numbers i j → (j < length numbers / 2 → meeting numbers i j ≡ false) → Between numbers i (j + 1)
   between_next {j} b t = record { after = omega (arith, b.after); passed = passed }

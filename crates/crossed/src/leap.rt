@@ -6,7 +6,7 @@ ghost use Rattle.boundary.specs.Listed.{edge_from};
 ghost use Rattle.pair.specs.Pair.{overlap};
 ghost use Rattle.crossed.specs.Rows.{rows_of, RowsTo};
 ghost use Rattle.crossed.specs.NearRows.{NearRow, Rooms};
-ghost use Rattle.crossed.specs.Leaps.{Skipped};
+ghost use Rattle.crossed.specs.Leaps.{Leapt};
 
 use crate::meeting::{corner, end_of, place_after};
 use crate::rows::{ROW, row_apart, row_end};
@@ -21,7 +21,7 @@ fn lats_overlap(numbers: &[u32], a: Point, b: Point, j: usize) -> bool
     pair::overlap(a.lat.0, b.lat.0, numbers[2 * j], numbers[2 * after])
 }
 
-// Whether the longitudes do.
+// Whether the longitudes do; latitude and longitude are never mixed.
 fn lons_overlap(numbers: &[u32], a: Point, b: Point, j: usize) -> bool
     requires { j < length numbers.now / 2 }
     ensures { result ≡ overlap a.lon.0 b.lon.0 (edge_from numbers.now j).start.lon.0 (edge_from numbers.now j).end.lon.0 }
@@ -31,32 +31,35 @@ fn lons_overlap(numbers: &[u32], a: Point, b: Point, j: usize) -> bool
 }
 
 // The first of the edges from one place to another whose extents are not apart from those of an edge.
-fn scan(numbers: &[u32], a: Point, b: Point, from: usize, to: usize) -> usize
-    requires from_le_to { from ≤ to }
-    requires to_in_bounds { to ≤ length numbers.now / 2 }
-    ensures lower_bound { (from ≤ result) × (result ≤ to) }
-    ensures skipped { Skipped numbers.now (edge a b) from result }
+fn scan(numbers: &[u32], a: Point, b: Point, from: usize, to: usize) -> Option<usize>
+    requires { to ≤ length numbers.now / 2 }
+    ensures { Leapt numbers.now (edge a b) from to result }
 {
     for j in from..to {
         if lats_overlap(numbers, a, b, j) && lons_overlap(numbers, a, b, j) {
-            return j;
+            return Some(j);
         }
     }
-    to
+    None
 }
 
 // The same where both places lie in one row, of which all are passed over if its extents are apart.
-fn scan_row(numbers: &[u32], extents: &[u32], a: Point, b: Point, from: usize, to: usize) -> usize
-    requires from_le_to { from ≤ to }
+fn scan_row(
+    numbers: &[u32],
+    extents: &[u32],
+    a: Point,
+    b: Point,
+    from: usize,
+    to: usize,
+) -> Option<usize>
     requires to_in_bounds { to ≤ length numbers.now / 2 }
     requires to_bound { to ≤ 8 * (from / 8) + 8 }
     requires from_in_bounds { from / 8 < length extents.now / 4 }
     requires rows_to { RowsTo numbers.now extents.now (rows_of numbers.now) }
-    ensures lower_bound { (from ≤ result) × (result ≤ to) }
-    ensures skipped { Skipped numbers.now (edge a b) from result }
+    ensures { Leapt numbers.now (edge a b) from to result }
 {
     if row_apart(extents, a, b, from / ROW) {
-        return to;
+        return None;
     }
     scan(numbers, a, b, from, to)
 }
@@ -73,13 +76,19 @@ pub(crate) fn ahead(near: &[usize], from: usize) -> usize
 }
 
 // The first edge from a place on whose extents are not apart from those of the edge from place i, row by row.
-fn leap_rows(numbers: &[u32], extents: &[u32], near: &[usize], i: usize, from: usize) -> usize
-    requires i_lt_from { (i < from) × (from ≤ length numbers.now / 2) }
+fn leap_rows(
+    numbers: &[u32],
+    extents: &[u32],
+    near: &[usize],
+    i: usize,
+    from: usize,
+) -> Option<usize>
+    requires i_in_bounds { i < length numbers.now / 2 }
+    requires i_lt_from { i < from }
     requires numbers_in_bounds { rows_of numbers.now ≤ length extents.now / 4 }
     requires rows_to { RowsTo numbers.now extents.now (rows_of numbers.now) }
     requires near_row { NearRow numbers.now near.now (i / 8) }
-    ensures lower_bound { (from ≤ result) × (result ≤ length numbers.now / 2) }
-    ensures skipped { Skipped numbers.now (edge_from numbers.now i) from result }
+    ensures { Leapt numbers.now (edge_from numbers.now i) from (length numbers.now / 2) result }
 {
     let count = numbers.len() / 2;
     let a = corner(numbers, i);
@@ -87,25 +96,29 @@ fn leap_rows(numbers: &[u32], extents: &[u32], near: &[usize], i: usize, from: u
     let mut j = ahead(near, from);
     while j < count {
         let to = row_end(count, j / ROW);
-        let found = scan_row(numbers, extents, a, b, j, to);
-        if found < to {
-            return found;
+        if let Some(found) = scan_row(numbers, extents, a, b, j, to) {
+            return Some(found);
         }
         j = ahead(near, to);
     }
-    count
+    None
 }
 
-// The first edge from a place on whose extents are not apart from those of the edge from place i, or past
-// the last.
-pub(crate) fn leap(numbers: &[u32], extents: &[u32], near: &[usize], i: usize, from: usize) -> usize
-    requires i_lt_from { (i < from) × (from ≤ length numbers.now / 2) }
+// The first edge from a place on whose extents are not apart from those of the edge from place i.
+pub(crate) fn leap(
+    numbers: &[u32],
+    extents: &[u32],
+    near: &[usize],
+    i: usize,
+    from: usize,
+) -> Option<usize>
+    requires i_in_bounds { i < length numbers.now / 2 }
+    requires i_lt_from { i < from }
     requires rooms { Rooms numbers.now extents.now (length near.now) }
     requires near_row { NearRow numbers.now near.now (i / 8) }
-    ensures lower_bound { (from ≤ result) × (result ≤ length numbers.now / 2) }
-    ensures skipped { Skipped numbers.now (edge_from numbers.now i) from result }
+    ensures { Leapt numbers.now (edge_from numbers.now i) from (length numbers.now / 2) result }
 {
-    if near.len() == 0 {
+    if near.is_empty() {
         let count = numbers.len() / 2;
         return scan(numbers, corner(numbers, i), end_of(numbers, i), from, count);
     }

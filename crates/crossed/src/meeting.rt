@@ -1,6 +1,6 @@
 // Two edges by the places of the corners where they start: where they end, which of them follows which,
 // and whether they meet.
-ghost use Rattle.std.specs.Prelude.{◌/◌, ◌<◌, ◌≡◌, not, length};
+ghost use Rattle.std.specs.Prelude.{ℕ, unwrap_or, ◌/◌, ◌<◌, ◌≡◌, not, length};
 ghost use Rattle.corners.specs.Corners.{corner_at};
 ghost use Rattle.edge.specs.Edge.{no_length};
 ghost use Rattle.boundary.specs.Listed.{place_after, edge_from};
@@ -21,7 +21,8 @@ pub(crate) fn corner(numbers: &[u32], i: usize) -> Point
     }
 }
 
-// The place after a place of so many: after the last comes the first.
+// The place after a place of so many: after the last comes the first. The walk of `boundary` has the same two
+// lines for itself: made public there they would need a must-fail edit of their own, and be no plainer.
 pub(crate) fn place_after(count: usize, i: usize) -> usize
     requires { i < count }
     ensures { result ≡ place_after count i }
@@ -46,16 +47,16 @@ fn has_length(numbers: &[u32], i: usize) -> bool
     edge::has_length(corner(numbers, i), end_of(numbers, i))
 }
 
-// The first place, from one on, where an edge starts that has a length; another place where there is none.
-fn start_from(numbers: &[u32], from: usize, none: usize) -> usize
-    ensures { result ≡ start_from numbers.now from none }
+// The first place, from one on, where an edge starts that has a length.
+fn start_from(numbers: &[u32], from: usize) -> Option<usize>
+    ensures { (none : ℕ) → unwrap_or result none ≡ start_from numbers.now from none }
 {
     for i in from..numbers.len() / 2 {
         if has_length(numbers, i) {
-            return i;
+            return Some(i);
         }
     }
-    none
+    None
 }
 
 // The place of the edge that follows the one from a place: the last is followed by the first.
@@ -63,7 +64,9 @@ fn following(numbers: &[u32], i: usize) -> usize
     requires { i < length numbers.now / 2 }
     ensures { result ≡ Meeting·following numbers.now i }
 {
-    start_from(numbers, i + 1, start_from(numbers, 0, 0))
+    start_from(numbers, i + 1)
+        .or_else(|| start_from(numbers, 0))
+        .unwrap_or(0)
 }
 
 // Whether two edges share a point other than the corner at which one follows the other.

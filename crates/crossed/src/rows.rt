@@ -21,7 +21,8 @@ fn row_count(numbers: &[u32]) -> usize
     (numbers.len() / 2).div_ceil(ROW)
 }
 
-// The lesser latitude and the lesser longitude of two points.
+// The lesser latitude and the lesser longitude of two points. It and the next stay two: one function over
+// `lesser` or `greater` as a closure would owe a clause that says what the closure answers.
 fn low(a: Point, b: Point) -> Point
     ensures { result ≡ lowest a b }
 {
@@ -41,7 +42,7 @@ fn high(a: Point, b: Point) -> Point
     }
 }
 
-// The end of a row: where the next starts, or past the last edge.
+// Where a row ends: eight edges after its start, or with the last edge.
 pub(crate) fn row_end(count: usize, row: usize) -> usize
     requires row_bound { 8 * row < count }
     requires count_bound { count < 9223372036854775808 }

@@ -18,7 +18,8 @@ pub(crate) enum Course {
     West,
 }
 
-// Whether b lies strictly on a course from a.
+// Whether b lies strictly on a course from a. The course is a value and no closure, for the laws of runs
+// (`Toward`, `Going`) speak of it by its name.
 fn goes(a: Point, b: Point, course: Course) -> bool
     ensures { result ≡ toward course a b }
 {
@@ -43,7 +44,7 @@ fn course_end(numbers: &[u32], from: usize, course: Course) -> usize
     count
 }
 
-// North or south, as an edge goes.
+// North or south, as an edge goes. It and the next stay two: latitude and longitude are never mixed.
 fn by_lat(a: Point, b: Point) -> Course {
     if a.lat.0 < b.lat.0 {
         Course::North

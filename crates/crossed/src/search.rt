@@ -24,13 +24,12 @@ pub(crate) fn search(numbers: &[u32], extents: &[u32], near: &mut [usize]) -> Op
         }
         run = run_on(numbers, i, run);
         renew(numbers, extents, i, near);
-        let mut j = ahead(near, run);
-        while j < count {
-            j = leap(numbers, extents, near, i, j);
-            if j < count && meeting(numbers, i, j) {
+        let mut from = ahead(near, run);
+        while let Some(j) = leap(numbers, extents, near, i, from) {
+            if meeting(numbers, i, j) {
                 break 'edges Some((i, j));
             }
-            j += 1;
+            from = j + 1;
         }
         i += 1;
     }

@@ -6,10 +6,10 @@ use Rattle.crossed.specs.Searching.{Before, Between}
 use Rattle.crossed.proofs.search.search.Given as goal
 
 abbrev pub invariant-loop-j : goal.invariant-loop-j
-invariant-loop-j l = Between l.numbers l.i l.j
+invariant-loop-j l = Between l.numbers l.i l.from
 
 abbrev pub decreases-loop-j : goal.decreases-loop-j
-decreases-loop-j l = length l.numbers / 2 - l.j
+decreases-loop-j l = length l.numbers / 2 - l.from
 
 abbrev pub invariant-edges : goal.invariant-edges
 invariant-edges l = Before l.numbers l.near l.run l.i × (length l.near ≡ length l.initial.near)
