@@ -7,6 +7,7 @@ ghost use Rattle.room.specs.Room.{Put};
 ghost use Rattle.letters.specs.Letters.{letters, spelled_in};
 ghost use Rattle.summary.specs.Summary.{line_of, stop_line, count_lines, place_line, place_lines, summary_of};
 
+use entitlements::Account;
 use halves::Halves;
 use output::put_decimal;
 use places::PLACES;
@@ -72,27 +73,19 @@ fn put_place(out: &mut [u8], at: usize, place: usize, code: Halves) -> usize
     put(out, end, b"\n")
 }
 
-// Puts each active place, lowest first.
-fn put_places<'a>(
-    out: &mut [u8],
-    at: usize,
-    high: &'a [u64; PLACES],
-    low: &'a [u64; PLACES],
-    active: &'a [u64; PLACES],
-) -> usize
-    ensures { Put out.old at (place_lines high.now low.now active.now) result out.new }
+// Puts each active place of an account, lowest first.
+fn put_places(out: &mut [u8], at: usize, account: &Account) -> usize
+    ensures { Put out.old at (place_lines account.now.high account.now.low account.now.active) result out.new }
 {
     let mut end = at;
-    let mut i = 0;
-    while i < PLACES {
-        if active[i] != 0 {
+    for i in 0..PLACES {
+        if account.active[i] != 0 {
             let code = Halves {
-                high: high[i],
-                low: low[i],
+                high: account.high[i],
+                low: account.low[i],
             };
             end = put_place(out, end, i, code);
         }
-        i += 1;
     }
     end
 }
@@ -106,5 +99,5 @@ pub fn put_summary(replayed: Replayed, out: &mut [u8]) -> usize
     let end = put_counts(out, end, replayed.counts);
     let end = put_line(out, end, b"last", account.last);
     let end = put_line(out, end, b"total", account.total);
-    put_places(out, end, &account.high, &account.low, &account.active)
+    put_places(out, end, &account)
 }

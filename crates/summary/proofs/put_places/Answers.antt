@@ -6,21 +6,22 @@ use Rattle.room.specs.RoomLaws.{length_put}
 use Rattle.summary.specs.SummaryLaws.{listing_begin, listing_active, listing_free, listing_end}
 use borrow.Author.Rules.{rules}
 use Rattle.summary.proofs.put_places.Goals as goal
-use Rattle.summary.proofs.put_places.Goals.{then-active-i-ne0, else-active-i-ne0}
+use Rattle.summary.proofs.put_places.Goals.{then-account-i-ne0, else-account-i-ne0}
 
 pub loop-i-init : goal.loop-i-init
 loop-i-init c =
     let asked = c.args in
-    listing_begin asked.high.now asked.low.now asked.active.now asked.out.now asked.at
+    let account = asked.account.now in
+    listing_begin account.high account.low account.active asked.out.now asked.at
 
 pub loop-i-preserved : goal.loop-i-preserved
 loop-i-preserved c =
-    let here = get_or c.args.active.now c.loop-i.i 0 in
-    elim c.if-active-i-ne0.branch [
-      | then-active-i-ne0 w ↦ rw (w.out-is, w.end-is)
-          (listing_active c.loop-i.invariant (search rules) (ne_eqb here 0 w.if-active-i-ne0.true) w.put_place-end.ensures)
-      | else-active-i-ne0 w ↦ rw (w.out-is, w.end-is)
-          (listing_free c.loop-i.invariant (search rules) (eq-eqb here 0 w.if-active-i-ne0.false))
+    let here = get_or c.args.account.now.active c.loop-i.i 0 in
+    elim c.if-account-i-ne0.branch [
+      | then-account-i-ne0 w ↦ rw (w.out-is, w.end-is)
+          (listing_active c.loop-i.invariant (search rules) (ne_eqb here 0 w.if-account-i-ne0.true) w.put_place-end.ensures)
+      | else-account-i-ne0 w ↦ rw (w.out-is, w.end-is)
+          (listing_free c.loop-i.invariant (search rules) (eq-eqb here 0 w.if-account-i-ne0.false))
     ]
 
 pub shape_of-out : goal.shape_of-out
