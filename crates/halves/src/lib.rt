@@ -27,16 +27,13 @@ fn accepts(location: u64, rest: u64) -> bool
 }
 
 // Whether halves are those of a code that reading accepts.
+#[tactic(auto, using(crate::specs::HalvesLaws::halves_read_lem), unfolding(crate::specs::Halves::is_code))]
 pub fn is_code(halves: Halves) -> bool
     ensures { result ≡ is_code halves }
 {
-    if halves.high >= END {
-        return false;
-    }
-    if halves.low >= END {
-        return false;
-    }
-    accepts(halves.high * 32 + halves.low / NINE, halves.low % NINE)
+    halves.high < END
+        && halves.low < END
+        && accepts(halves.high * 32 + halves.low / NINE, halves.low % NINE)
 }
 
 // The code of two numbers of a text, where reading accepts them: the location's last letter goes to

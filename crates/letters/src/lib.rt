@@ -17,6 +17,7 @@ pub fn value_in(alphabet: &[u8], byte: u8) -> usize
 }
 
 // The value of a letter, 0 to 31, and 32 for a byte that is none.
+#[tactic(auto, using(crate::specs::Alphabet::value_most))]
 pub fn value(byte: u8) -> u32
     ensures { result ≡ value_in letters byte }
 {
@@ -33,6 +34,7 @@ pub fn first_other(text: &[u8]) -> usize
 
 // Spells a number in the whole of a room, a letter for each five bits, high first; bits for which
 // the room has no letter are left out.
+#[tactic(auto, using(crate::specs::Letters::spelling_begin, crate::specs::Letters::spelling_again, crate::specs::Letters::spelling_end))]
 pub fn spell(room: &mut [u8], number: u64)
     ensures { room.new ≡ spelled_in letters (length room.old) number }
 {
@@ -45,6 +47,7 @@ pub fn spell(room: &mut [u8], number: u64)
 }
 
 // The number that a text spells, or its low sixty bits where it has more than twelve letters.
+#[tactic(auto, using(crate::specs::Alphabet::value_most, crate::specs::Letters::summing_begin, crate::specs::Letters::summing_again, crate::specs::Letters::summing_end))]
 pub fn number(text: &[u8]) -> u64
     ensures { result ≡ number_in letters text.now % 2 ^ 60 }
 {

@@ -14,6 +14,7 @@ pub enum Misspelled {
 }
 
 // The two numbers of a text of any length and any bytes: its location, and the rest of its letters.
+#[tactic(auto, unfolding(crate::specs::Spelling::numbers_in, crate::specs::Spelling::text_checks))]
 pub fn numbers_in(text: &[u8]) -> Result<(u64, u64), Misspelled>
     ensures { spells result ≡ numbers_in text.now }
 {
@@ -32,6 +33,7 @@ pub fn numbers_in(text: &[u8]) -> Result<(u64, u64), Misspelled>
 
 // Spells two numbers into bytes 0 to 19 of a room, and writes nothing into a shorter one. Bits
 // for which there is no letter are left out.
+#[tactic(auto, unfolding(crate::specs::Spelling::spelled_into))]
 pub fn spell(room: &mut [u8], location: u64, rest: u64)
     ensures { room.new ≡ spelled_into room.old location rest }
 {

@@ -5,15 +5,10 @@ use mathlib.Core.List.{List, ◌++◌}
 use lib.ListN.{length, drop}
 use lib.Seq.{length-take-le}
 use borrow.Author.Rules.{rules}
-use borrow.Author.Tests.{lt-ltb}
 use Rattle.letters.specs.Letters.{letters, spelled_in}
-use Rattle.spelling.specs.Spelling.{spelled_both, spelled_into}
+use Rattle.spelling.specs.Spelling.{spelled_both}
 use Rattle.spelling.specs.SpellingLaws.{spelled_into_lem, room_after, part_after}
 use Rattle.spelling.proofs.spell.Goals as goal
-
-pub returns-then-room-lt20 : goal.returns-then-room-lt20
-unfolding spelled_into
-returns-then-room-lt20 c = rw (lt-ltb _ _ c.if-room-lt20.true)
 
 pub returns : goal.returns
 unfolding spelled_both
