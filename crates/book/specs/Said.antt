@@ -12,7 +12,7 @@ use Rattle.lines.specs.Messages.{Message, message, asks_total, not_of_this_form,
 use Rattle.lines.specs.Answers.{Served, Serving}
 use Rattle.lines.specs.Automaton.{Coming}
 use Rattle.entry.specs.Stated.{kind_of}
-use Rattle.book.specs.declared.Line.{Line}
+use Rattle.lines.specs.declared.Line.{Line}
 
 -- "`activated`, `already`, `cancelled`, `not active`, `old`, or `refused`, number and place"
 abbrev pub reply_of : Answering → Reply

@@ -1,6 +1,6 @@
 -- The laws of what is said of a line: one that is too long, one not of this form, one that asks for the total, and one that states a
 -- message; and of what leaves the account as it was. Assumes nothing.
-use Rattle.std.specs.Prelude.{◌≡◌, ℕ, ◌<◌, ◌≤◌, List, length, drop}
+use Rattle.std.specs.Prelude.{Some, None, ◌≡◌, ℕ, ◌<◌, ◌≤◌, List, length, drop}
 use Rattle.std.proofs.Common.{ap, ◌∙◌, lt-ltb, le-ltb}
 use Rattle.entitlements.specs.declared.Account.{Account}
 use Rattle.entitlements.specs.declared.Kind.{Kind}
@@ -10,7 +10,7 @@ use Rattle.change.specs.Change.{stays, stepped}
 use Rattle.room.specs.Room.{Put}
 use Rattle.lines.specs.Lines.{Reply, refused, reply_line, longest}
 use Rattle.lines.specs.Messages.{message_of}
-use Rattle.entry.specs.declared.Stated.TheVariants.{Message, Total, Bad}
+use Rattle.entry.specs.declared.Stated.TheVariants.{Message, Total}
 use Rattle.entry.specs.Stated.{stated_of}
 use Rattle.entry.specs.StatedLaws.{stated_bad, stated_total, stated_message}
 use Rattle.book.specs.Said.{Doing, total_said, answered, posted, form_posted, posting, reply_to, StepsBy}
@@ -25,13 +25,13 @@ module _ (doing : Doing) (account : Account) (line : List ℕ) where
     unfolding posting
     posting_form = rw (le-ltb longest (length line) h)
 
-    pub posting_bad : stated_of line ≡ Bad → posting doing account line ≡ answered (refused 9 0) account
+    pub posting_bad : stated_of line ≡ None → posting doing account line ≡ answered (refused 9 0) account
     posting_bad e = posting_form ∙ ap (form_posted doing account) (stated_bad line e)
 
-    pub posting_total : stated_of line ≡ Total → posting doing account line ≡ answered (total_said (total_of account)) account
+    pub posting_total : stated_of line ≡ Some Total → posting doing account line ≡ answered (total_said (total_of account)) account
     posting_total e = posting_form ∙ ap (form_posted doing account) (stated_total line e)
 
-    pub posting_message : {kind : Kind} {number at : ℕ} → stated_of line ≡ Message kind number at
+    pub posting_message : {kind : Kind} {number at : ℕ} → stated_of line ≡ Some (Message kind number at)
         → posting doing account line ≡ posted (doing kind account (drop at line) number)
     posting_message {number = number} {at = at} e =
         let states = stated_message line e in

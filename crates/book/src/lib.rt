@@ -17,13 +17,7 @@ ghost use Rattle.book.specs.Said.{posting, coming};
 
 use crate::post::post_held;
 use entitlements::Account;
-
-// The line that comes in: its number, and how many of its bytes stand in the room.
-#[derive(Drop)]
-pub struct Line {
-    pub number: u64,
-    pub len: usize,
-}
+pub use lines::Line;
 
 // What a read leaves: the line that comes in then, the account, and how many bytes the replies have.
 #[derive(Drop)]
@@ -46,43 +40,23 @@ pub fn reply_all(
     ensures room_after { coming result.line result.account room.new ≡ after (posting processing) (coming line account room.old) bytes.now }
     ensures put { Put out.old 0 (ended (posting processing) (coming line account room.old) bytes.now) result.put out.new }
 {
-    let mut high = account.high;
-    let mut low = account.low;
-    let mut active = account.active;
-    let mut last = account.last;
-    let mut total = account.total;
-    let mut number = line.number;
-    let mut len = line.len;
+    let mut line = line;
+    let mut account = account;
     let mut put = 0;
-    let mut i = 0;
-    while i < bytes.len() {
-        let byte = bytes[i];
-        i += 1;
-        if byte == b'\n' {
-            let line = Line { number, len };
-            let posted = post_held(line, &high, &low, &active, last, total, room, out, put);
-            let step = posted.step;
-            change::put_step(&mut high, &mut low, &mut active, step);
-            last = step.last;
-            total = step.total;
+    for byte in bytes {
+        if *byte == b'\n' {
+            let posted = post_held(line, &account, room, out, put);
+            change::put_step(&mut account, posted.step);
             put = posted.put;
-            number = std::num::wrapping_add_u64(number, 1);
-            len = 0;
+            line = Line {
+                number: line.number.wrapping_add(1),
+                len: 0,
+            };
         } else {
-            len = lines::add(room, len, byte);
+            line.len = lines::add(room, line.len, *byte);
         }
     }
-    Listed {
-        line: Line { number, len },
-        account: Account {
-            high,
-            low,
-            active,
-            last,
-            total,
-        },
-        put,
-    }
+    Listed { line, account, put }
 }
 
 // Puts the reply to a last line that has no line feed; there is none after a line feed that ends the
@@ -93,16 +67,6 @@ pub fn reply_last(line: Line, account: Account, room: &[u8], out: &mut [u8]) -> 
     if line.len == 0 {
         return 0;
     }
-    let posted = post_held(
-        line,
-        &account.high,
-        &account.low,
-        &account.active,
-        account.last,
-        account.total,
-        room,
-        out,
-        0,
-    );
+    let posted = post_held(line, &account, room, out, 0);
     posted.put
 }

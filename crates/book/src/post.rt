@@ -2,15 +2,14 @@
 ghost use Rattle.std.specs.Prelude.{◌≡◌, take};
 ghost use Rattle.room.specs.Room.{Put};
 ghost use Rattle.lines.specs.Lines.{refused, reply_line};
-ghost use Rattle.entitlements.specs.Entitlements.{account_of, says};
+ghost use Rattle.entitlements.specs.Entitlements.{says};
 ghost use Rattle.change.specs.Change.{stays};
 ghost use Rattle.book.specs.Said.{reply_of, total_said, reply_to, StepsBy};
 
 use crate::Line;
 use change::Step;
-use entitlements::Answer;
+use entitlements::{Account, Answer};
 use entry::Stated;
-use places::PLACES;
 
 // What a line leaves: the step of the account, and the position after its reply.
 #[derive(Drop)]
@@ -19,97 +18,72 @@ pub(crate) struct Posted {
     pub put: usize,
 }
 
-// The reply to a line that came in, whose first bytes stand in a room, in an account by its arrays, its
-// last number and its total.
-pub(crate) fn post_held<'a>(
+// The reply to a line that came in, whose first bytes stand in a room.
+pub(crate) fn post_held(
     line: Line,
-    high: &'a [u64; PLACES],
-    low: &'a [u64; PLACES],
-    active: &'a [u64; PLACES],
-    last: u64,
-    total: u64,
+    account: &Account,
     room: &[u8],
     out: &mut [u8],
     at: usize,
 ) -> Posted
-    ensures steps_by { StepsBy (take line.len room.now) (account_of high.now low.now active.now last total) result.step }
-    ensures put { Put out.old at (reply_to line.number (account_of high.now low.now active.now last total) (take line.len room.now)) result.put out.new }
+    ensures steps_by { StepsBy (take line.len room.now) account.now result.step }
+    ensures put { Put out.old at (reply_to line.number account.now (take line.len room.now)) result.put out.new }
 {
     let number = line.number;
     let len = line.len;
     if room.len() < len {
-        return post_line(number, high, low, active, last, total, room, out, at);
+        return post_line(number, account, room, out, at);
     }
-    post_line(
-        number,
-        high,
-        low,
-        active,
-        last,
-        total,
-        &room[..len],
-        out,
-        at,
-    )
+    post_line(number, account, &room[..len], out, at)
 }
 
 // The reply to a line.
-fn post_line<'a>(
-    number: u64,
-    high: &'a [u64; PLACES],
-    low: &'a [u64; PLACES],
-    active: &'a [u64; PLACES],
-    last: u64,
-    total: u64,
-    line: &[u8],
-    out: &mut [u8],
-    at: usize,
-) -> Posted
-    ensures steps_by { StepsBy line.now (account_of high.now low.now active.now last total) result.step }
-    ensures put { Put out.old at (reply_to number (account_of high.now low.now active.now last total) line.now) result.put out.new }
+fn post_line(number: u64, account: &Account, line: &[u8], out: &mut [u8], at: usize) -> Posted
+    ensures steps_by { StepsBy line.now account.now result.step }
+    ensures put { Put out.old at (reply_to number account.now line.now) result.put out.new }
 {
     if line.len() > lines::LONGEST {
-        return refuse(last, total, out, at, number, 10);
+        return refuse(account, out, at, number, 10);
     }
     let stated = entry::message_of(line);
     match stated {
-        Stated::Message(kind, message, start) => {
-            let text = &line[start..];
-            let change = change::change_of(kind, high, low, active, last, total, text, message);
-            let answer = change.answer;
-            let put = put_answer(out, at, number, answer);
-            let step = change.step;
-            Posted { step, put }
+        Some(Stated::Message(kind, message, start)) => {
+            let change = change::change_of(kind, account, &line[start..], message);
+            let put = put_answer(out, at, number, change.answer);
+            Posted {
+                step: change.step,
+                put,
+            }
         }
-        Stated::Total => tell(last, total, out, at, number),
-        Stated::Bad => refuse(last, total, out, at, number, 9),
+        Some(Stated::Total) => tell(account, out, at, number),
+        None => refuse(account, out, at, number, 9),
     }
 }
 
 // The reply to a line that is refused, which leaves the account as it was.
-fn refuse(last: u64, total: u64, out: &mut [u8], at: usize, number: u64, refusal: u32) -> Posted
-    ensures step_value { result.step ≡ stays last total }
+fn refuse(account: &Account, out: &mut [u8], at: usize, number: u64, refusal: u32) -> Posted
+    ensures step_value { result.step ≡ stays account.now.last account.now.total }
     ensures put { Put out.old at (reply_line number (refused refusal 0)) result.put out.new }
 {
     let put = output::put_refused(out, at, number, refusal, 0);
     Posted {
-        step: change::stay(last, total),
+        step: change::stay(account.last, account.total),
         put,
     }
 }
 
 // The reply to a line that asks for the total, which leaves the account as it was.
-fn tell(last: u64, total: u64, out: &mut [u8], at: usize, number: u64) -> Posted
-    ensures step_value { result.step ≡ stays last total }
-    ensures put { Put out.old at (reply_line number (total_said total)) result.put out.new }
+fn tell(account: &Account, out: &mut [u8], at: usize, number: u64) -> Posted
+    ensures step_value { result.step ≡ stays account.now.last account.now.total }
+    ensures put { Put out.old at (reply_line number (total_said account.now.total)) result.put out.new }
 {
     let end = output::put_decimal(out, at, number);
     let end = room::put(out, end, b" ");
     let end = room::put(out, end, b"total ");
-    let end = output::put_decimal(out, end, total);
+    let end = output::put_decimal(out, end, account.total);
     let put = room::put(out, end, b"\n");
     Posted {
-        step: change::stay(last, total),
+        step: change::stay(account.last, account.total),
         put,
     }
 }

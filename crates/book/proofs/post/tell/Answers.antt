@@ -8,6 +8,6 @@ pub returns : goal.returns
 returns c =
     let asked = c.args in record {
       step_value = c.stay.ensures;
-      put = put_reply asked.number (total_said asked.total) c.put_decimal-end.ensures c.put-end.ensures
+      put = put_reply asked.number (total_said asked.account.now.total) c.put_decimal-end.ensures c.put-end.ensures
           (put_then c.put-end-2.ensures c.put_decimal-end-2.ensures) c.put-put.ensures;
     }
