@@ -1,5 +1,5 @@
 -- What a descent is asked, and what the searches around it ask of their callers. Assumes nothing.
-use Rattle.std.specs.Prelude.{ℕ, ◌+◌, ◌-◌, ◌/◌, ◌%◌, ◌≤◌, ◌<◌, ◌≡◌, Bool, true, ◌||◌, List, ltb}
+use Rattle.std.specs.Prelude.{ℕ, ◌+◌, ◌-◌, ◌/◌, ◌%◌, ◌≤◌, ◌<◌, ◌≡◌, Bool, true, ◌||◌, List, ltb, Option}
 use Rattle.ground.specs.declared.Lon.{Lon}
 use Rattle.ground.specs.declared.Rectangle.{Rectangle}
 use Rattle.ground.specs.declared.Cell.{Cell}
@@ -9,7 +9,6 @@ use Rattle.ground.specs.Cells.{IsCell}
 use Rattle.ground.specs.Halves.{Span, Ground, narrowest}
 use Rattle.edge.specs.Edge.{Edge}
 use Rattle.boundary.specs.Boundary.{inside}
-use Rattle.chosen.specs.declared.Choice.{Choice}
 use Rattle.chosen.specs.Chosen.{Over}
 use Rattle.quick.specs.declared.half.Half.{Half}
 use Rattle.quick.specs.declared.half.Sought.{Sought}
@@ -31,7 +30,7 @@ pub record Seeks (es : List Edge) (s : Sought) : Type 0 where
 
 -- A descent with so many halvings left, latitude first: the half's ground is a cell's of the level that they lead down from, and past what is
 -- found
-pub record ByLat (es : List Edge) (room : List ℕ) (half : Half) (s : Sought) (left : ℕ) (found : Choice) : Type 0 where
+pub record ByLat (es : List Edge) (room : List ℕ) (half : Half) (s : Sought) (left : ℕ) (found : Option Cell) : Type 0 where
   pub sound : Sound es room half
   pub seeks : Seeks es s
   pub even : left % 2 ≡ 0
@@ -40,7 +39,7 @@ pub record ByLat (es : List Edge) (room : List ℕ) (half : Half) (s : Sought) (
   pub past : Past found half.ground
 
 -- longitude first: latitude has been halved already
-pub record ByLon (es : List Edge) (room : List ℕ) (half : Half) (s : Sought) (left : ℕ) (found : Choice) : Type 0 where
+pub record ByLon (es : List Edge) (room : List ℕ) (half : Half) (s : Sought) (left : ℕ) (found : Option Cell) : Type 0 where
   pub sound : Sound es room half
   pub seeks : Seeks es s
   pub odd : left % 2 ≡ 1

@@ -1,6 +1,6 @@
 -- The laws of a descent: the answer for ground that is a cell, the halves that follow, and the answers for them that make that for the whole.
 -- Assumes nothing.
-use Rattle.std.specs.Prelude.{ℕ, ◌+◌, ◌-◌, ◌/◌, ◌≤◌, ◌<◌, max, ◌≡◌, refl, ◌⊎◌, Bool, true, false, List, eqb}
+use Rattle.std.specs.Prelude.{ℕ, ◌+◌, ◌-◌, ◌/◌, ◌≤◌, ◌<◌, max, ◌≡◌, refl, ◌⊎◌, Bool, true, false, List, eqb, Option, Some}
 use Rattle.std.proofs.Common.{eq-or-lt_of_le, arith, ap, subst₂, ◌∙◌, inl, inr, true≢false, eqb-true}
 use Rattle.std.proofs.Math.Path.{sym, subst}
 use Rattle.std.proofs.lemmas.Bool.{eqb-false}
@@ -20,8 +20,6 @@ use Rattle.ground.proofs.HalvesLaws.{LatHalves, lat_halves, lat_unhalved, LonHal
 use Rattle.edge.specs.Edge.{Edge}
 use Rattle.boundary.specs.Boundary.{unmet, ground_inside, inside}
 use Rattle.boundary.proofs.InsideLaws.{inside_within}
-use Rattle.chosen.specs.declared.Choice.{Choice}
-use Rattle.chosen.specs.declared.Choice.TheVariants.{At}
 use Rattle.quick.specs.declared.half.Half.{Half}
 use Rattle.quick.specs.declared.half.Sought.{Sought}
 use Rattle.quick.specs.Half.{Sound, part_of, StrictlyBetween, HoldsNone}
@@ -86,7 +84,7 @@ module _ (es : List Edge) {level : ℕ} {r : Rectangle} (l : IsLevel level) (g :
   no_cell_lem e d w = true≢false (sym w.is ∙ ap (inside es) (only_cell d w) ∙ cell_inside (met_inside es r e))
 
 -- Where what is sought is settled, what was found stays
-pub settled_first : {es : List Edge} {s : Sought} {r : Rectangle} {from : ℕ} {found : Choice} → Seeks es s → Past found r
+pub settled_first : {es : List Edge} {s : Sought} {r : Rectangle} {from : ℕ} {found : Option Cell} → Seeks es s → Past found r
     → settled_at found r.west (max from s.coarsest) s.finest ≡ true → First es from s.finest r found found
 settled_first {es} {s} {r} {from} {found} seeks past t =
     first_stays (λ d w h. settled_none found t past d w (least d w (either_way s.coarsest d.level)) h)
@@ -96,10 +94,10 @@ settled_first {es} {s} {r} {from} {found} seeks past t =
     least d w (inr h) = absurd (seeks.none.none d w.cell w.is h)
 
 -- and so over ground that holds no wanted cell
-pub passed_first : {es : List Edge} {from finest : ℕ} {g : Rectangle} {found : Choice} → HoldsNone es finest g → First es from finest g found found
+pub passed_first : {es : List Edge} {from finest : ℕ} {g : Rectangle} {found : Option Cell} → HoldsNone es finest g → First es from finest g found found
 passed_first h = first_stays (λ d w k. h d w.cell w.most w.is w.lies)
 
-module _ {es : List Edge} {room : List ℕ} {half : Half} {s : Sought} {left : ℕ} {found : Choice} (b : ByLat es room half s left found) where
+module _ {es : List Edge} {room : List ℕ} {half : Half} {s : Sought} {left : ℕ} {found : Option Cell} (b : ByLat es room half s left found) where
   -- The level of halvings that are left is one of the levels
   lat_level : IsLevel (s.finest - left / 2)
   lat_level = omega (arith, b.coarsest, b.seeks.most)
@@ -107,7 +105,7 @@ module _ {es : List Edge} {room : List ℕ} {half : Half} {s : Sought} {left : �
   -- Ground that is inside is the answer
   pub lat_inside : ground_inside es half.ground ≡ true
       → settled_at found half.ground.west (max (s.finest - left / 2) s.coarsest) s.finest ≡ false
-      → First es (s.finest - left / 2) s.finest half.ground found (At (cell_of (s.finest - left / 2) half.ground))
+      → First es (s.finest - left / 2) s.finest half.ground found (Some (cell_of (s.finest - left / 2) half.ground))
   lat_inside e t =
       first_corner
       (record {
@@ -146,7 +144,7 @@ module _ {es : List Edge} {room : List ℕ} {half : Half} {s : Sought} {left : �
     same_lon = omega (arith, b.even, b.coarsest)
 
     -- The descent that goes on by longitude
-    lat_on : {later : List ℕ} {h : Half} {now : Choice} → Sound es later h → (ground : Ground (s.finest - left / 2 + 1) (s.finest - left / 2) h.ground)
+    lat_on : {later : List ℕ} {h : Half} {now : Option Cell} → Sound es later h → (ground : Ground (s.finest - left / 2 + 1) (s.finest - left / 2) h.ground)
         → Past now h.ground → ByLon es later h s (left - 1) now
     lat_on {later} {h} sound g past =
         record {
@@ -159,7 +157,7 @@ module _ {es : List Edge} {room : List ℕ} {half : Half} {s : Sought} {left : �
         }
 
     -- Ground that an edge meets has the answer of the finer levels
-    pub lat_below : (a : Choice) → unmet half.ground es ≡ false → First es (s.finest - (left - 1) / 2) s.finest half.ground found a
+    pub lat_below : (a : Option Cell) → unmet half.ground es ≡ false → First es (s.finest - (left - 1) / 2) s.finest half.ground found a
         → First es (s.finest - left / 2) s.finest half.ground found a
     lat_below a e first =
         first_below a (no_cell_lem es lat_level b.ground e)
@@ -187,7 +185,7 @@ module _ {es : List Edge} {room : List ℕ} {half : Half} {s : Sought} {left : �
             let part = south_part b.sound at lat_between in
             lat_on (sound_part b.sound part) lat_split_lem.south (past_within found (south_of half.ground at) half.ground part.within b.past)
 
-        module _ {later : List ℕ} (kept : Sound es later half) (a : Choice)
+        module _ {later : List ℕ} (kept : Sound es later half) (a : Option Cell)
             (first : First es (s.finest - (left - 1) / 2) s.finest (south_of half.ground at) found a) where
           -- The north half, past what is found in the south
           pub lat_north : ByLon es later (part_of half (north_of half.ground at)) s (left - 1) a
@@ -197,7 +195,7 @@ module _ {es : List Edge} {room : List ℕ} {half : Half} {s : Sought} {left : �
               (past_first (north_of half.ground at) a (inl (omega arith)) first (past_within found (north_of half.ground at) half.ground part.within b.past))
 
           -- and the answer for both
-          pub lat_joined : (c : Choice) → unmet half.ground es ≡ false
+          pub lat_joined : (c : Option Cell) → unmet half.ground es ≡ false
               → First es (s.finest - (left - 1) / 2) s.finest (north_of half.ground at) a c
               → First es (s.finest - left / 2) s.finest half.ground found c
           lat_joined c e second =
@@ -206,7 +204,7 @@ module _ {es : List Edge} {room : List ℕ} {half : Half} {s : Sought} {left : �
               (subst (λ (n : ℕ). low_side n at.0 ≡ at.0) finer_lat lat_split_lem.side)
               (omega (arith, lat_split_lem.low)) (omega (arith, lat_split_lem.high)) first second)
 
-module _ {es : List Edge} {room : List ℕ} {half : Half} {s : Sought} {left : ℕ} {found : Choice} (b : ByLon es room half s left found) where
+module _ {es : List Edge} {room : List ℕ} {half : Half} {s : Sought} {left : ℕ} {found : Option Cell} (b : ByLon es room half s left found) where
   -- One halving less is left, and longitude is one level finer
   finer_lon : s.finest - left / 2 - 1 + 1 ≡ s.finest - left / 2
   finer_lon = omega (arith, b.coarsest)
@@ -233,7 +231,7 @@ module _ {es : List Edge} {room : List ℕ} {half : Half} {s : Sought} {left : �
       }
 
   -- The descent that goes on by latitude
-  lon_on : {later : List ℕ} {h : Half} {now : Choice} → Sound es later h → Ground (s.finest - left / 2 - 1 + 1) (s.finest - left / 2 - 1 + 1) h.ground
+  lon_on : {later : List ℕ} {h : Half} {now : Option Cell} → Sound es later h → Ground (s.finest - left / 2 - 1 + 1) (s.finest - left / 2 - 1 + 1) h.ground
       → Past now h.ground → ByLat es later h s (left - 1) now
   lon_on {later} {h} sound g past =
       record {
@@ -256,7 +254,7 @@ module _ {es : List Edge} {room : List ℕ} {half : Half} {s : Sought} {left : �
     pub lon_whole : at.0 ≡ half.ground.east.0 → ByLat es room half s (left - 1) found
     lon_whole same = lon_on b.sound (lon_unsplit same) b.past
 
-    pub lon_same : (a : Choice) → First es (s.finest - (left - 1) / 2) s.finest half.ground found a
+    pub lon_same : (a : Option Cell) → First es (s.finest - (left - 1) / 2) s.finest half.ground found a
         → First es (s.finest - left / 2) s.finest half.ground found a
     lon_same a first = subst (λ (n : ℕ). First es n s.finest half.ground found a) (sym same_lat) first
 
@@ -273,7 +271,7 @@ module _ {es : List Edge} {room : List ℕ} {half : Half} {s : Sought} {left : �
           let part = west_part b.sound at lon_between in
           lon_on (sound_part b.sound part) lon_split_lem.west (past_within found (west_of half.ground at) half.ground part.within b.past)
 
-      module _ {later : List ℕ} (kept : Sound es later half) (a : Choice)
+      module _ {later : List ℕ} (kept : Sound es later half) (a : Option Cell)
           (first : First es (s.finest - (left - 1) / 2) s.finest (west_of half.ground at) found a) where
         -- The east half, past what is found in the west
         pub lon_east : ByLat es later (part_of half (east_of half.ground at)) s (left - 1) a
@@ -283,7 +281,7 @@ module _ {es : List Edge} {room : List ℕ} {half : Half} {s : Sought} {left : �
             (past_first (east_of half.ground at) a (inr (omega arith)) first (past_within found (east_of half.ground at) half.ground part.within b.past))
 
         -- and the answer for both
-        pub lon_joined : (c : Choice) → First es (s.finest - (left - 1) / 2) s.finest (east_of half.ground at) a c
+        pub lon_joined : (c : Option Cell) → First es (s.finest - (left - 1) / 2) s.finest (east_of half.ground at) a c
             → First es (s.finest - left / 2) s.finest half.ground found c
         lon_joined c second =
             lon_same c
@@ -295,7 +293,7 @@ module _ {es : List Edge} {room : List ℕ} {half : Half} {s : Sought} {left : �
   lon_corner : (p : Rectangle) → Ground (s.finest - left / 2 - 1 + 1) (s.finest - left / 2 - 1 + 1) p → Within p half.ground
       → p.west ≡ half.ground.west → p.south ≡ half.ground.south → ground_inside es half.ground ≡ true
       → settled_at found half.ground.west (max (s.finest - left / 2) s.coarsest) s.finest ≡ false
-      → First es (s.finest - left / 2) s.finest half.ground found (At (cell_of (s.finest - left / 2) half.ground))
+      → First es (s.finest - left / 2) s.finest half.ground found (Some (cell_of (s.finest - left / 2) half.ground))
   lon_corner p g within west south e t =
       let own : Ground (s.finest - left / 2) (s.finest - left / 2) p = subst (λ (n : ℕ). Ground n n p) finer_lon g in
       let c : Cell = cell_of (s.finest - left / 2) p in
@@ -304,7 +302,7 @@ module _ {es : List Edge} {room : List ℕ} {half : Half} {s : Sought} {left : �
       let sides = ground_cell es lon_level own in
       let is = cell_cell es lon_level own in
       let wide = subst Wide sides (cell_wide c lon_level) in
-      subst (λ (x : Cell). First es (s.finest - left / 2) s.finest half.ground found (At x)) same
+      subst (λ (x : Cell). First es (s.finest - left / 2) s.finest half.ground found (Some x)) same
       (first_corner
       (record {
         cell = is;
@@ -319,14 +317,14 @@ module _ {es : List Edge} {room : List ℕ} {half : Half} {s : Sought} {left : �
   -- Ground that is inside has the answer in its south-west corner
   pub lon_inside : ground_inside es half.ground ≡ true
       → settled_at found half.ground.west (max (s.finest - left / 2) s.coarsest) s.finest ≡ false
-      → First es (s.finest - left / 2) s.finest half.ground found (At (cell_of (s.finest - left / 2) half.ground))
+      → First es (s.finest - left / 2) s.finest half.ground found (Some (cell_of (s.finest - left / 2) half.ground))
   lon_inside e t = by (eqb at.0 half.ground.east.0) refl
     where
       at : Lon
       at = lon_split (s.finest - left / 2) half.ground
 
       by : (k : Bool) → eqb at.0 half.ground.east.0 ≡ k
-          → First es (s.finest - left / 2) s.finest half.ground found (At (cell_of (s.finest - left / 2) half.ground))
+          → First es (s.finest - left / 2) s.finest half.ground found (Some (cell_of (s.finest - left / 2) half.ground))
       by true k =
           let same = eqb-true at.0 half.ground.east.0 k in
           lon_corner half.ground (lon_unsplit refl same) (within_self half.ground) refl refl e t

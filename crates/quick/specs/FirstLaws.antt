@@ -1,6 +1,6 @@
 -- The laws of the first: when what was found stays, when a cell takes its place, and how the answers for parts of ground make that for the
 -- whole. Assumes nothing.
-use Rattle.std.specs.Prelude.{ℕ, ◌+◌, ◌≤◌, ◌<◌, ◌≡◌, refl, ◌⊎◌, Bool, true, false, cond, List, leb, ltb}
+use Rattle.std.specs.Prelude.{ℕ, ◌+◌, ◌≤◌, ◌<◌, ◌≡◌, refl, ◌⊎◌, Bool, true, false, cond, List, leb, ltb, Option, Some, None}
 use Rattle.std.proofs.Common.{arith, sym, ◌∙◌, leb-true, leb-false, ltb-true, ltb-false}
 use Rattle.std.proofs.Math.Path.{subst}
 use Rattle.std.proofs.Math.Logic.{inl, inr}
@@ -15,8 +15,6 @@ use Rattle.ground.specs.Cells.{low_side, high_side, sides_of}
 use Rattle.ground.proofs.CellsLaws.{cell_wide}
 use Rattle.ground.proofs.HalvesLaws.{split, low_finer}
 use Rattle.edge.specs.Edge.{Edge}
-use Rattle.chosen.specs.declared.Choice.{Choice}
-use Rattle.chosen.specs.declared.Choice.TheVariants.{At, Nowhere}
 use Rattle.chosen.specs.Chosen.{Before}
 use Rattle.quick.specs.First.{Wanted, Ahead, Gained, First, Past, settled_at}
 
@@ -35,9 +33,9 @@ before_then x d c (inr (e, inr (k, h))) (inr (f, inl l)) = inr (e ∙ f, inl (om
 before_then x d c (inr (e, inr (k, h))) (inr (f, inr (m, l))) = inr (e ∙ f, inr (k ∙ m, omega arith))
 
 -- What comes before a cell comes before what that comes before
-ahead_then : (found : Choice) (d c : Cell) → Before d c → Ahead c found → Ahead d found
-ahead_then (At e) d c h k = before_then d c e h k
-ahead_then Nowhere d c h k = tt
+ahead_then : (found : Option Cell) (d c : Cell) → Before d c → Ahead c found → Ahead d found
+ahead_then (Some e) d c h k = before_then d c e h k
+ahead_then None d c h k = tt
 
 module _ {es : List Edge} {from : ℕ} where
   -- A wanted cell of a part is one of the whole
@@ -56,19 +54,19 @@ module _ {es : List Edge} {from : ℕ} where
   wanted_part w lies = record { cell = w.cell; least = w.least; most = w.most; is = w.is; lies = lies }
 
 -- What is gained in a part is gained in the whole
-gained_within : (es : List Edge) (from finest : ℕ) (r s : Rectangle) (found answer : Choice) → Within r s → Gained es from finest r found answer
+gained_within : (es : List Edge) (from finest : ℕ) (r s : Rectangle) (found answer : Option Cell) → Within r s → Gained es from finest r found answer
     → Gained es from finest s found answer
-gained_within es from finest r s found (At c) h g = (wanted_within h g.0, g.1)
-gained_within es from finest r s found Nowhere h g = elim g [ ]
+gained_within es from finest r s found (Some c) h g = (wanted_within h g.0, g.1)
+gained_within es from finest r s found None h g = elim g [ ]
 
 module _ {es : List Edge} {from finest : ℕ} where
   -- What was found stays where no wanted cell comes before it
-  pub first_stays : {r : Rectangle} {found : Choice} → ((d : Cell) → Wanted es from finest r d → Ahead d found → ⊥)
+  pub first_stays : {r : Rectangle} {found : Option Cell} → ((d : Cell) → Wanted es from finest r d → Ahead d found → ⊥)
       → First es from finest r found found
   first_stays none = record { origin = inl refl; none = none }
 
   -- The answer for ground that holds every wanted cell of a larger one is the answer for that
-  pub first_all : {r s : Rectangle} {found : Choice} (answer : Choice) → Within r s
+  pub first_all : {r s : Rectangle} {found : Option Cell} (answer : Option Cell) → Within r s
       → ((d : Cell) → Wanted es from finest s d → Within (sides_of d) r) → First es from finest r found answer
       → First es from finest s found answer
   first_all {r} {s} {found} answer h all f =
@@ -80,34 +78,34 @@ module _ {es : List Edge} {from finest : ℕ} where
 
   -- The answer for one part, handed to the other, gives that for the whole
   pub first_both : {r p q : Rectangle} → Within p r → Within q r
-      → ((d : Cell) → Wanted es from finest r d → (Within (sides_of d) p) ⊎ (Within (sides_of d) q)) → {found : Choice} (a b : Choice)
+      → ((d : Cell) → Wanted es from finest r d → (Within (sides_of d) p) ⊎ (Within (sides_of d) q)) → {found : Option Cell} (a b : Option Cell)
       → First es from finest p found a → First es from finest q a b → First es from finest r found b
   first_both {r} {p} {q} hp hq all {found} a b f g = record { origin = origin a b f.origin g.origin; none = λ d w h. none d w h (all d w) }
     where
-      gained : (a b : Choice) → Gained es from finest p found a → Gained es from finest q a b → Gained es from finest r found b
-      gained (At c) (At d) j k = (wanted_within hq k.0, ahead_then found d c k.1 j.1)
-      gained (At c) Nowhere j k = elim k [ ]
-      gained Nowhere _ j k = elim j [ ]
+      gained : (a b : Option Cell) → Gained es from finest p found a → Gained es from finest q a b → Gained es from finest r found b
+      gained (Some c) (Some d) j k = (wanted_within hq k.0, ahead_then found d c k.1 j.1)
+      gained (Some c) None j k = elim k [ ]
+      gained None _ j k = elim j [ ]
 
-      origin : (a b : Choice) → (a ≡ found) ⊎ Gained es from finest p found a → (b ≡ a) ⊎ Gained es from finest q a b
+      origin : (a b : Option Cell) → (a ≡ found) ⊎ Gained es from finest p found a → (b ≡ a) ⊎ Gained es from finest q a b
           → (b ≡ found) ⊎ Gained es from finest r found b
       origin a b (inl e) (inl k) = inl (k ∙ e)
-      origin a b (inl e) (inr k) = inr (gained_within es from finest q r found b hq (subst (λ (x : Choice). Gained es from finest q x b) e k))
+      origin a b (inl e) (inr k) = inr (gained_within es from finest q r found b hq (subst (λ (x : Option Cell). Gained es from finest q x b) e k))
       origin a b (inr j) (inl k) = inr (subst (Gained es from finest r found) (sym k) (gained_within es from finest p r found a hp j))
       origin a b (inr j) (inr k) = inr (gained a b j k)
 
       -- what comes before the second answer comes before the first
-      ahead : (a b : Choice) (d : Cell) → (b ≡ a) ⊎ Gained es from finest q a b → Ahead d b → Ahead d a
+      ahead : (a b : Option Cell) (d : Cell) → (b ≡ a) ⊎ Gained es from finest q a b → Ahead d b → Ahead d a
       ahead a b d (inl k) h = subst (Ahead d) k h
-      ahead a (At e) d (inr k) h = ahead_then a d e h k.1
-      ahead a Nowhere d (inr k) h = elim k [ ]
+      ahead a (Some e) d (inr k) h = ahead_then a d e h k.1
+      ahead a None d (inr k) h = elim k [ ]
 
       none : (d : Cell) → Wanted es from finest r d → Ahead d b → (Within (sides_of d) p) ⊎ (Within (sides_of d) q) → ⊥
       none d w h (inl l) = f.none d (wanted_part w l) (ahead a b d g.origin h)
       none d w h (inr l) = g.none d (wanted_part w l) h
 
   -- Where there is none of the coarsest level, the answer is that for the finer ones
-  pub first_below : {r : Rectangle} {found : Choice} (answer : Choice) → ((d : Cell) → Wanted es from from r d → ⊥)
+  pub first_below : {r : Rectangle} {found : Option Cell} (answer : Option Cell) → ((d : Cell) → Wanted es from from r d → ⊥)
       → First es (from + 1) finest r found answer → First es from finest r found answer
   first_below {r} {found} answer none f = record { origin = by answer f.origin; none = λ d w. f.none d (finer d w) }
     where
@@ -118,18 +116,18 @@ module _ {es : List Edge} {from finest : ℕ} where
           at (inl h) = absurd (none d (record { cell = w.cell; least = w.least; most = h; is = w.is; lies = w.lies }))
           at (inr h) = record { cell = w.cell; least = omega arith; most = w.most; is = w.is; lies = w.lies }
 
-      by : (answer : Choice) → (answer ≡ found) ⊎ Gained es (from + 1) finest r found answer
+      by : (answer : Option Cell) → (answer ≡ found) ⊎ Gained es (from + 1) finest r found answer
           → (answer ≡ found) ⊎ Gained es from finest r found answer
       by answer (inl e) = inl e
-      by (At c) (inr g) = inr (
+      by (Some c) (inr g) = inr (
         record { cell = g.0.cell; least = omega (arith, g.0.least); most = g.0.most; is = g.0.is; lies = g.0.lies },
         g.1,
       )
-      by Nowhere (inr g) = elim g [ ]
+      by None (inr g) = elim g [ ]
 
   -- A wanted cell of the coarsest level with the ground's own south-west corner is the answer, where it comes before what was found
-  pub first_corner : {r : Rectangle} {found : Choice} {c : Cell} → Wanted es from finest r c → c.level ≡ from → c.west.0 ≡ r.west.0
-      → c.south.0 ≡ r.south.0 → Ahead c found → First es from finest r found (At c)
+  pub first_corner : {r : Rectangle} {found : Option Cell} {c : Cell} → Wanted es from finest r c → c.level ≡ from → c.west.0 ≡ r.west.0
+      → c.south.0 ≡ r.south.0 → Ahead c found → First es from finest r found (Some c)
   unfolding sides_of
   first_corner {r} {found} {c} w level west south ahead = record { origin = inr (w, ahead); none = none }
     where
@@ -139,31 +137,31 @@ module _ {es : List Edge} {from finest : ℕ} where
       none d v (inr (e, inr (k, h))) = omega (arith, v.lies.south)
 
   -- Ground north or east of a part is past what is found there, if past what was found before
-  pub past_first : {p : Rectangle} (q : Rectangle) {found : Choice} (answer : Choice) → (p.north.0 ≤ q.south.0) ⊎ (p.east.0 ≤ q.west.0)
+  pub past_first : {p : Rectangle} (q : Rectangle) {found : Option Cell} (answer : Option Cell) → (p.north.0 ≤ q.south.0) ⊎ (p.east.0 ≤ q.west.0)
       → First es from finest p found answer → Past found q → Past answer q
   unfolding sides_of
   past_first {p} q {found} answer apart f past = by answer apart f.origin
     where
-      by : (answer : Choice) → (p.north.0 ≤ q.south.0) ⊎ (p.east.0 ≤ q.west.0)
+      by : (answer : Option Cell) → (p.north.0 ≤ q.south.0) ⊎ (p.east.0 ≤ q.west.0)
           → (answer ≡ found) ⊎ Gained es from finest p found answer → Past answer q
-      by answer apart (inl e) = subst (λ (x : Choice). Past x q) (sym e) past
-      by (At c) (inl h) (inr g) = inr (omega (arith, (cell_wide c g.0.cell.level).up, g.0.lies.north))
-      by (At c) (inr h) (inr g) = inl (omega (arith, (cell_wide c g.0.cell.level).across, g.0.lies.east))
-      by Nowhere apart (inr g) = elim g [ ]
+      by answer apart (inl e) = subst (λ (x : Option Cell). Past x q) (sym e) past
+      by (Some c) (inl h) (inr g) = inr (omega (arith, (cell_wide c g.0.cell.level).up, g.0.lies.north))
+      by (Some c) (inr h) (inr g) = inl (omega (arith, (cell_wide c g.0.cell.level).across, g.0.lies.east))
+      by None apart (inr g) = elim g [ ]
 
 -- Ground that is past what is found is so in each part
-pub past_within : (found : Choice) (r s : Rectangle) → Within r s → Past found s → Past found r
-past_within (At c) r s h (inl p) = inl (omega (arith, h.west))
-past_within (At c) r s h (inr p) = inr (omega (arith, h.south))
-past_within Nowhere r s h p = tt
+pub past_within : (found : Option Cell) (r s : Rectangle) → Within r s → Past found s → Past found r
+past_within (Some c) r s h (inl p) = inl (omega (arith, h.west))
+past_within (Some c) r s h (inr p) = inr (omega (arith, h.south))
+past_within None r s h p = tt
 
 -- Where the search is settled, no wanted cell comes before what is found
-pub settled_none : {es : List Edge} {from finest least : ℕ} {r : Rectangle} (found : Choice) → settled_at found r.west least finest ≡ true
+pub settled_none : {es : List Edge} {from finest least : ℕ} {r : Rectangle} (found : Option Cell) → settled_at found r.west least finest ≡ true
     → Past found r → (d : Cell) → Wanted es from finest r d → least ≤ d.level → Ahead d found → ⊥
 unfolding sides_of
-settled_none {es} {from} {finest} {least} {r} (At c) t past d w more h = at (ltb r.west.0 c.west.0) refl t h
+settled_none {es} {from} {finest} {least} {r} (Some c) t past d w more h = at (ltb r.west.0 c.west.0) refl t h
   where
-    last : Past (At c) r → c.west.0 ≡ d.west.0 → d.south.0 < c.south.0 → ⊥
+    last : Past (Some c) r → c.west.0 ≡ d.west.0 → d.south.0 < c.south.0 → ⊥
     last (inl p) e k = omega (arith, w.lies.west)
     last (inr p) e k = omega (arith, w.lies.south)
 
@@ -173,12 +171,12 @@ settled_none {es} {from} {finest} {least} {r} (At c) t past d w more h = at (ltb
     at false e s (inl k) = omega (arith, leb-true c.level least s)
     at false e s (inr (l, inl k)) = omega (arith, ltb-false r.west.0 c.west.0 e, w.lies.west)
     at false e s (inr (l, inr (m, k))) = last past (sym m) k
-settled_none {finest = finest} {least} Nowhere t past d w more h = omega (arith, ltb-true finest least t, w.most)
+settled_none {finest = finest} {least} None t past d w more h = omega (arith, ltb-true finest least t, w.most)
 
 -- and where it is not, a cell of a level up to the least that is wanted does
-pub unsettled_ahead : (least finest : ℕ) (found : Choice) (c : Cell) → settled_at found c.west least finest ≡ false → c.level ≤ least
+pub unsettled_ahead : (least finest : ℕ) (found : Option Cell) (c : Cell) → settled_at found c.west least finest ≡ false → c.level ≤ least
     → Ahead c found
-unsettled_ahead least finest (At e) c t most = at (ltb c.west.0 e.west.0) refl t
+unsettled_ahead least finest (Some e) c t most = at (ltb c.west.0 e.west.0) refl t
   where
     at : (b : Bool) → ltb c.west.0 e.west.0 ≡ b → cond b (ltb e.level least) (leb e.level least) ≡ false → Before c e
     at true k s = by (either_way e.level c.level)
@@ -187,14 +185,14 @@ unsettled_ahead least finest (At e) c t most = at (ltb c.west.0 e.west.0) refl t
         by (inl l) = inr (omega (arith, ltb-false e.level least s), inl (ltb-true c.west.0 e.west.0 k))
         by (inr l) = inl l
     at false k s = inl (omega (arith, leb-false e.level least s))
-unsettled_ahead least finest Nowhere c t most = tt
+unsettled_ahead least finest None c t most = tt
 
 -- A low side of the coarsest level is one of each wanted cell's level
 wanted_side : {es : List Edge} {from finest : ℕ} {r : Rectangle} (d : Cell) → coarsest_level ≤ from → {a : ℕ} → low_side from a ≡ a
     → Wanted es from finest r d → low_side d.level a ≡ a
 wanted_side {from = from} d coarsest {a} is w = low_finer from d.level a coarsest w.least w.cell.level.finest is
 
-module _ {es : List Edge} {from finest : ℕ} (coarsest : coarsest_level ≤ from) (r : Rectangle) {found : Choice} (a b : Choice) where
+module _ {es : List Edge} {from finest : ℕ} (coarsest : coarsest_level ≤ from) (r : Rectangle) {found : Option Cell} (a b : Option Cell) where
   -- South and north of a latitude that is a low side of the coarsest level
   pub first_lat : (at : Lat) → low_side from at.0 ≡ at.0 → r.south.0 ≤ at.0 → at.0 ≤ r.north.0
       → First es from finest (south_of r at) found a → First es from finest (north_of r at) a b → First es from finest r found b

@@ -1,12 +1,12 @@
 -- A half and the edges that are kept for it in a lent room: what has to be so of it, and what the test for passing over tells. Assumes
 -- nothing.
-use Rattle.std.specs.Prelude.{ℕ, ◌-◌, ◌*◌, ◌≤◌, ◌<◌, min, max, ◌≡◌, Bool, true, false, cond, not, ◌&&◌, ◌||◌, List, [], ◌∷◌, map, ltb, length}
+use Rattle.std.specs.Prelude.{ℕ, ◌-◌, ◌*◌, ◌≤◌, ◌<◌, min, max, ◌≡◌, Bool, true, false, cond, not, ◌&&◌, ◌||◌, List, [], ◌∷◌, map, ltb, length, Option, Some, None}
 use Rattle.facts.specs.Lists.{count_up}
 use Rattle.ground.specs.declared.Rectangle.{Rectangle}
 use Rattle.ground.specs.declared.Cell.{Cell}
 use Rattle.ground.specs.Rectangles.{Within, Lies, Wide, centre_of}
 use Rattle.ground.specs.Cells.{sides_of, IsCell}
-use Rattle.edge.specs.Edge.{Edge, beyond, misses}
+use Rattle.edge.specs.Edge.{Edge, misses}
 use Rattle.boundary.specs.Boundary.{point_inside, unmet, ground_inside, inside}
 use Rattle.boundary.specs.Closed.{Closed}
 use Rattle.boundary.specs.Keeps.{Keeps}
@@ -32,17 +32,16 @@ meeting r (e ∷ es) = cond (misses e r) (meeting r es) (e ∷ meeting r es)
 pub record MissedTo (room : List ℕ) (r : Rectangle) (from to : ℕ) : Type 0 where
   pub each : (j : ℕ) → from ≤ j → j < to → misses (edge_in room j) r ≡ true
 
--- The place of the first of the edges between two places that is not beyond a side of a rectangle, or one past them
-pub record NearFirst (room : List ℕ) (r : Rectangle) (from to place : ℕ) : Type 0 where
-  pub least : from ≤ place
-  pub missed : MissedTo room r from place
-  pub near : place < to → beyond (edge_in room place) r ≡ false
-
--- and of the first that meets it
+-- The place of the first of the edges between two places that meets a rectangle, or one past them
 pub record MetFirst (room : List ℕ) (r : Rectangle) (from to place : ℕ) : Type 0 where
   pub least : from ≤ place
   pub missed : MissedTo room r from place
   pub met : place < to → misses (edge_in room place) r ≡ false
+
+-- that place alone; none where each of them misses it
+abbrev pub FoundFirst : List ℕ → Rectangle → ℕ → ℕ → Option ℕ → Type 0
+FoundFirst room r from to (Some place) = (place < to) × MetFirst room r from to place
+FoundFirst room r from to None = MissedTo room r from to
 
 -- Edges in a room that are kept for some ground
 pub record KeptFor (es : List Edge) (room : List ℕ) (around : Rectangle) (from to : ℕ) : Type 0 where

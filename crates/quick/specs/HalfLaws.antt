@@ -1,6 +1,6 @@
 -- The laws of a half: how a loop takes its kept edges from the room one by one and moves some behind the others, and what is known of its
 -- parts. Assumes nothing.
-use Rattle.std.specs.Prelude.{ℕ, zero, suc, ◌+◌, ◌-◌, ◌*◌, ◌/◌, ◌≤◌, ◌<◌, ◌≡◌, refl, ◌⊎◌, Bool, true, false, cond, not, ◌&&◌, List, [], ◌∷◌, ◌++◌, map, length, get_or, take, drop}
+use Rattle.std.specs.Prelude.{ℕ, zero, suc, ◌+◌, ◌-◌, ◌*◌, ◌/◌, ◌≤◌, ◌<◌, max, ◌≡◌, refl, ◌⊎◌, Bool, true, false, cond, not, ◌&&◌, List, [], ◌∷◌, ◌++◌, map, length, get_or, take, drop}
 use Rattle.std.proofs.Common.{add-one, arith, ap, ap₂, ◌∙◌, sym, subst, inl, inr, append-nil, append_assoc, drop_of_length-le, length-take-le, get_or-take}
 use Rattle.std.specs.Bool.{beq}
 use Rattle.std.proofs.lemmas.List.{map-append}
@@ -22,7 +22,7 @@ use Rattle.boundary.specs.Keeps.{Keeps, keeps_inner, keeps_drop, keeps_unmet, ke
 use Rattle.boundary.specs.Listed.{edges_in, edge_in, with_edge}
 use Rattle.boundary.specs.ListedLaws.{edges_length, edges_from, with_length_lem, edge_there, edge_before}
 use Rattle.quick.specs.declared.half.Half.{Half}
-use Rattle.quick.specs.Half.{kept_in, meeting, MissedTo, NearFirst, MetFirst, Same, Sound, narrowed, part_of, starting_at, Part, StrictlyBetween, AllIn}
+use Rattle.quick.specs.Half.{kept_in, meeting, MissedTo, MetFirst, Same, Sound, narrowed, part_of, starting_at, Part, StrictlyBetween, AllIn}
 
 -- Edges that are the same at so many places from one on make the same list
 places_same : (f g : ℕ → Edge) (n i : ℕ) → ((j : ℕ) → i ≤ j → j < i + n → f j ≡ g j) → map f (count_up n i) ≡ map g (count_up n i)
@@ -103,21 +103,6 @@ missed_again {room} {r} {from} {i} m t = missed_then m (record { each = λ j h k
     one : (j : ℕ) → i ≤ j → j < i + 1 → misses (edge_in room j) r ≡ true
     one j h k = let same : i ≡ j = omega arith in subst (λ (n : ℕ). misses (edge_in room n) r ≡ true) same t
 
--- The loop of `first_met`: where the first call ended
-pub near_begin : {room : List ℕ} {r : Rectangle} {from to place : ℕ} → NearFirst room r from to place → NearFirst room r place to place
-near_begin {room} {r} {place = place} n = record { least = omega arith; missed = missed_none room r place; near = n.near }
-
--- past an edge that misses, to where the next call ended
-pub near_again : {room : List ℕ} {r : Rectangle} {from to i place : ℕ} → NearFirst room r from to i → misses (edge_in room i) r ≡ true
-    → NearFirst room r (i + 1) to place → NearFirst room r from to place
-near_again n t next =
-    record { least = omega (arith, n.least, next.least); missed = missed_then (missed_again n.missed t) next.missed; near = next.near }
-
--- and the place where it ends is that of the first that meets
-pub near_met : {room : List ℕ} {r : Rectangle} {from to first place : ℕ} → NearFirst room r from to first → NearFirst room r first to place
-    → (place < to → misses (edge_in room place) r ≡ false) → MetFirst room r from to place
-near_met n m met = record { least = omega (arith, n.least, m.least); missed = missed_then n.missed m.missed; met = met }
-
 -- Edges that miss a rectangle need not be kept for it
 keeps_passed : {es : List Edge} {room : List ℕ} {r : Rectangle} (to n i : ℕ) → MissedTo room r i (i + n) → Keeps es r (kept_in room i to)
     → Keeps es r (kept_in room (i + n) to)
@@ -166,6 +151,17 @@ module _ {es : List Edge} {room : List ℕ} {h : Half} (s : Sound es room h) whe
   -- and where none does, not
   pub past_unmet : {place : ℕ} → MetFirst room h.ground h.first h.to place → h.to ≤ place → unmet h.ground es ≡ true
   past_unmet {place} m past = keeps_unmet (keeps_met m) ∙ ap (unmet h.ground) (kept_none room place h.to past)
+
+  -- so where none is found
+  pub none_unmet : MissedTo room h.ground h.first h.to → unmet h.ground es ≡ true
+  none_unmet missed =
+      past_unmet {place = max h.first h.to}
+      (record {
+        least = omega arith;
+        missed = record { each = λ j k l. missed.each j k (omega (arith, k, l)) };
+        met = λ less. let none : ⊥ = omega arith in absurd none;
+      })
+      (omega arith)
 
   -- The count at a point of a half, by its edges alone
   pub odd_inside : {q : Point} → Lies h.ground q

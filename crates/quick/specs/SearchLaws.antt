@@ -1,6 +1,6 @@
 -- The laws of the search: levels that are too wide, the half that a descent starts from, the answers for the ground of a column and for all
 -- ground, as the loops carry them on, and the chosen cell that they give. Assumes nothing.
-use Rattle.std.specs.Prelude.{ℕ, ◌+◌, ◌-◌, ◌*◌, ◌/◌, ◌≤◌, ◌<◌, ◌≡◌, refl, ◌⊎◌, Bool, true, false, ◌||◌, List, ltb}
+use Rattle.std.specs.Prelude.{ℕ, ◌+◌, ◌-◌, ◌*◌, ◌/◌, ◌≤◌, ◌<◌, ◌≡◌, refl, ◌⊎◌, Bool, true, false, ◌||◌, List, ltb, Option, Some, None}
 use Rattle.std.proofs.Common.{eq-or-lt_of_le, arith, sym, ap, subst, ◌∙◌, inl, inr, ltb-true}
 use Rattle.facts.specs.Tests.{either, true_of, holds}
 use Rattle.facts.specs.Numbers.{either_way}
@@ -20,8 +20,6 @@ use Rattle.edge.specs.Edge.{Edge}
 use Rattle.boundary.specs.Boundary.{inside}
 use Rattle.boundary.specs.Closed.{north_apart}
 use Rattle.boundary.specs.Keeps.{Keeps, keeps_all}
-use Rattle.chosen.specs.declared.Choice.{Choice}
-use Rattle.chosen.specs.declared.Choice.TheVariants.{At, Nowhere}
 use Rattle.chosen.specs.Chosen.{choose, Over}
 use Rattle.chosen.proofs.ChosenLaws.{chosen_choose, none_choose}
 use Rattle.chosen.specs.InExtents.{in_extents}
@@ -124,7 +122,7 @@ module _ {es : List Edge} {room : List ℕ} {count : ℕ} (all : AllIn es room c
       keeps r = subst (Keeps es r) (sym all.all) (keeps_all es r)
 
   -- and so is what the descent is asked
-  pub by_lat_all : {found : Choice} → Levels s.finest top → Past found cell
+  pub by_lat_all : {found : Option Cell} → Levels s.finest top → Past found cell
       → ByLat es room (top_half count s.extents cell) s (2 * (s.finest - top)) found
   by_lat_all h past =
       record {
@@ -141,7 +139,7 @@ abbrev pub stretch : Lon → Lon → ℕ → ℕ → Rectangle
 stretch west east from south = record { west = west; east = east; south = lat from; north = lat south }
 
 -- The column has been searched from a latitude up to a south side
-pub record UpTo (es : List Edge) (finest top : ℕ) (west east : Lon) (from south : ℕ) (before found : Choice) : Type 0 where
+pub record UpTo (es : List Edge) (finest top : ℕ) (west east : Lon) (from south : ℕ) (before found : Option Cell) : Type 0 where
   pub is : low_side top south ≡ south
   pub least : from ≤ south
   pub most : south ≤ lat_end
@@ -160,7 +158,7 @@ module _ {r : Rectangle} {es : List Edge} (o : Over r es) {finest top : ℕ} (l 
   east_most is less = side_end top (top_level l) 180 is less o.east_end
 
   -- At first nothing has been searched
-  pub column_begin : (west east : Lon) {south : ℕ} {before : Choice} → south ≡ low_side top r.south.0
+  pub column_begin : (west east : Lon) {south : ℕ} {before : Option Cell} → south ≡ low_side top r.south.0
       → UpTo es finest top west east south south before before
   column_begin west east {south} e =
       record {
@@ -170,19 +168,19 @@ module _ {r : Rectangle} {es : List Edge} (o : Over r es) {finest top : ℕ} (l 
         first = first_stays (λ d w h. omega (arith, (cell_wide d w.cell.level).up, w.lies.south, w.lies.north));
       }
 
-  module _ {west east : Lon} {from south : ℕ} {before found : Choice} (s : UpTo es finest top west east from south before found) where
+  module _ {west east : Lon} {from south : ℕ} {before found : Option Cell} (s : UpTo es finest top west east from south before found) where
     -- The next cell is past what is found
     pub column_past : (north : ℕ) → Past before (column west east) → Past found (stretch west east south north)
     column_past north past =
         past_first (stretch west east south north) found (inl (omega arith)) s.first (west_past before past)
       where
-        west_past : (before : Choice) → Past before (column west east) → Past before (stretch west east south north)
-        west_past (At c) (inl h) = inl h
-        west_past (At c) (inr h) = let none : ⊥ = omega arith in absurd none
-        west_past Nowhere h = tt
+        west_past : (before : Option Cell) → Past before (column west east) → Past before (stretch west east south north)
+        west_past (Some c) (inl h) = inl h
+        west_past (Some c) (inr h) = let none : ⊥ = omega arith in absurd none
+        west_past None h = tt
 
     -- One more cell
-    pub column_again : {north : ℕ} (next : Choice) → south < r.north.0 → north ≡ high_side top south
+    pub column_again : {north : ℕ} (next : Option Cell) → south < r.north.0 → north ≡ high_side top south
         → First es top finest (stretch west east south north) found next → UpTo es finest top west east from north before next
     column_again {north} next less e first =
         let more : south < north = omega (arith, low_below_high top south (top_level l)) in
@@ -208,22 +206,22 @@ module _ {r : Rectangle} {es : List Edge} (o : Over r es) {finest top : ℕ} (l 
         s.first
 
 -- A cell that is found is somewhere
-found_somewhere : {c : Cell} → At c ≡ Nowhere → ⊥
-found_somewhere e = subst (λ (x : Choice). some x) e tt
+found_somewhere : {c : Cell} → Some c ≡ None → ⊥
+found_somewhere e = subst (λ (x : Option Cell). some x) e tt
   where
-    some : Choice → Type 0
-    some (At c) = Unit {0}
-    some Nowhere = ⊥
+    some : Option Cell → Type 0
+    some (Some c) = Unit {0}
+    some None = ⊥
 
 -- The ground has been searched from the range's start to a west side
-pub record EastTo (es : List Edge) (finest top west : ℕ) (found : Choice) : Type 0 where
+pub record EastTo (es : List Edge) (finest top west : ℕ) (found : Option Cell) : Type 0 where
   pub is : low_side top west ≡ west
   pub most : west ≤ lon_end
-  pub first : First es top finest (column (lon 0) (lon west)) Nowhere found
+  pub first : First es top finest (column (lon 0) (lon west)) None found
 
 module _ {r : Rectangle} {es : List Edge} (o : Over r es) {finest top : ℕ} (l : Levels finest top) where
   -- At first, before the extents, there is nothing to find
-  pub east_begin : {west : ℕ} → west ≡ low_side top r.west.0 → EastTo es finest top west Nowhere
+  pub east_begin : {west : ℕ} → west ≡ low_side top r.west.0 → EastTo es finest top west None
   east_begin {west} e =
       let least = low_most top (top_level l) r.west.0 in
       record {
@@ -232,13 +230,13 @@ module _ {r : Rectangle} {es : List Edge} (o : Over r es) {finest top : ℕ} (l 
         first = first_stays (λ d w h. omega (arith, (cell_wide d w.cell.level).across, (in_extents o d w.cell w.is).west, w.lies.east));
       }
 
-  module _ {west : ℕ} {found : Choice} (s : EastTo es finest top west found) where
+  module _ {west : ℕ} {found : Option Cell} (s : EastTo es finest top west found) where
     -- The next column is past what is found
     pub east_past : (east : Lon) → Past found (column (lon west) east)
     east_past east = past_first (column (lon west) east) found (inr (omega arith)) s.first tt
 
     -- One more column
-    pub east_again : {east : ℕ} (next : Choice) → west < r.east.0 → east ≡ high_side top west
+    pub east_again : {east : ℕ} (next : Option Cell) → west < r.east.0 → east ≡ high_side top west
         → First es top finest (column (lon west) (lon east)) found next → EastTo es finest top east next
     east_again {east} next less e first =
         let more : west < east = omega (arith, low_below_high top west (top_level l)) in
@@ -249,7 +247,7 @@ module _ {r : Rectangle} {es : List Edge} (o : Over r es) {finest top : ℕ} (l 
         }
 
     -- At the end the ground has been searched
-    pub east_end : r.east.0 ≤ west → First es top finest everywhere Nowhere found
+    pub east_end : r.east.0 ≤ west → First es top finest everywhere None found
     east_end past =
         first_all found (record { west = omega arith; east = s.most; south = omega arith; north = omega arith })
         (λ d w.
@@ -277,7 +275,7 @@ module _ {r : Rectangle} {es : List Edge} (o : Over r es) where
   seeks_begin none h e = record { over = o; none = none; most = h.1; least = e }
 
   -- Where none of a level up to 27 is, there is no chosen cell
-  pub levels_end : {level : ℕ} → NoneCoarser es level → finest_level < level → choose r es ≡ Nowhere
+  pub levels_end : {level : ℕ} → NoneCoarser es level → finest_level < level → choose r es ≡ None
   levels_end s past = none_choose o λ d is t. s.none d is (true_of (inside es d) t) (omega (arith, is.level.finest))
 
   module _ {level finest top : ℕ} (s : NoneCoarser es level) (l : Levels finest top) (starts : top ≤ level) where
@@ -297,14 +295,14 @@ module _ {r : Rectangle} {es : List Edge} (o : Over r es) where
         at (inr h) = absurd (s.none d is t h)
 
     -- A cell found is the chosen one
-    pub levels_found : {found : Choice} {c : Cell} → First es top finest everywhere Nowhere found → found ≡ At c
-        → choose r es ≡ At c
+    pub levels_found : {found : Option Cell} {c : Cell} → First es top finest everywhere None found → found ≡ Some c
+        → choose r es ≡ Some c
     levels_found {found} {c} first is = by f.origin
       where
-        f : First es top finest everywhere Nowhere (At c)
-        f = subst (First es top finest everywhere Nowhere) is first
+        f : First es top finest everywhere None (Some c)
+        f = subst (First es top finest everywhere None) is first
 
-        by : (At c ≡ Nowhere) ⊎ Gained es top finest everywhere Nowhere (At c) → choose r es ≡ At c
+        by : (Some c ≡ None) ⊎ Gained es top finest everywhere None (Some c) → choose r es ≡ Some c
         by (inl e) = absurd (found_somewhere e)
         by (inr g) =
             chosen_choose o
@@ -315,9 +313,9 @@ module _ {r : Rectangle} {es : List Edge} (o : Over r es) where
             })
 
     -- Else no cell of a level up to the finest is inside
-    pub levels_again : {found : Choice} → First es top finest everywhere Nowhere found → found ≡ Nowhere → NoneCoarser es (finest + 1)
+    pub levels_again : {found : Option Cell} → First es top finest everywhere None found → found ≡ None → NoneCoarser es (finest + 1)
     levels_again {found} first is =
-        let f : First es top finest everywhere Nowhere Nowhere = subst (First es top finest everywhere Nowhere) is first in
+        let f : First es top finest everywhere None None = subst (First es top finest everywhere None) is first in
         record {
           coarsest = omega (arith, l.coarsest, l.below);
           finest = omega (arith, l.most);

@@ -3,7 +3,8 @@ use ground::{Lon, Point, Rectangle};
 
 // The ground of a half. The edges that are kept for some ground around it stand in the room, from one
 // place to before another, and those before the place `first` miss the half. Of the ground around it the
-// east side is known, and whether the count is odd at a corner in it.
+// east side is known, and whether the count is odd at a corner in it. No slice stands for the places, as the
+// room is written behind them, and `odd` is a count's, no flag that says whether a value is there.
 #[derive(Clone, Copy)]
 pub struct Half {
     pub ground: Rectangle,

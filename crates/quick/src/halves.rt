@@ -1,5 +1,6 @@
 // The parts of a half: south and north of a latitude, west and east of a longitude. They share its edges,
-// as asking these again costs less than sorting them.
+// as asking these again costs less than sorting them. They are four functions, and not two, as latitude and
+// longitude are never mixed (a rule of the project).
 ghost use Rattle.std.specs.Prelude.{◌≡◌};
 ghost use Rattle.ground.specs.Rectangles.{south_of, north_of, west_of, east_of};
 ghost use Rattle.quick.specs.Half.{part_of, starting_at};

@@ -1,6 +1,8 @@
 // The search for the first inside cell, by level, then west side, then south side, by halving ground by
 // latitude, then by longitude, in turn. What is found is handed down and comes back, so that only what would
-// come before it is looked for; and halves that cannot hold a wanted cell are passed over.
+// come before it is looked for; and halves that cannot hold a wanted cell are passed over. Document 01 names
+// two functions that call each other. What goes along is in no struct: the room is lent anew, and the half,
+// what is left and what is found are others at each call, so that one would be plainer at none.
 ghost use Rattle.std.specs.Prelude.{◌-◌, ◌/◌, max, ◌≡◌};
 ghost use Rattle.boundary.specs.Listed.{boundary_of};
 ghost use Rattle.quick.specs.Half.{Same};
@@ -11,20 +13,18 @@ use crate::half::{Half, Sought};
 use crate::halves::{east_half, north_half, south_half, starting_at, west_half};
 use crate::kept::sorted;
 use crate::passing::{Tested, test};
-use chosen::Choice;
-use ground::{Cell, Lon};
+use ground::{Cell, Lon, Rectangle};
 
 // Whether no cell from a west side on, of a level or a finer one that is sought, comes before what is found:
 // of the same level only one further west does.
-pub(crate) fn settled(found: Choice, west: Lon, level: u32, sought: Sought) -> bool
+pub(crate) fn settled(found: Option<Cell>, west: Lon, level: u32, sought: Sought) -> bool
     ensures { result ≡ settled_at found west (max level sought.coarsest) sought.finest }
 {
-    let least = angles::greater(level, sought.coarsest);
-    let Choice::At(c) = found else {
+    let least = level.max(sought.coarsest);
+    let Some(c) = found else {
         return sought.finest < least;
     };
-    let c_west = c.west;
-    if west.0 < c_west.0 {
+    if west.0 < c.west.0 {
         return c.level < least;
     }
     c.level <= least
@@ -39,22 +39,20 @@ pub(crate) fn by_lat(
     half: Half,
     sought: Sought,
     left: u32,
-    found: Choice,
-) -> Choice
+    found: Option<Cell>,
+) -> Option<Cell>
     requires { ByLat (boundary_of numbers.now) room.old half sought left found }
     ensures first { First (boundary_of numbers.now) (sought.finest - left / 2) sought.finest half.ground found result }
     ensures same { Same half.to room.old room.new }
 {
-    let ground = half.ground;
-    let west = ground.west;
-    let south = ground.south;
+    let Rectangle { west, south, .. } = half.ground;
     let level = sought.finest - left / 2;
     if settled(found, west, level, sought) {
         return found;
     }
     let said = test(numbers, room, half, sought);
     if let Tested::Inside = said {
-        return Choice::At(Cell { level, west, south });
+        return Some(Cell { level, west, south });
     }
     let Tested::Met(place) = said else {
         return found;
@@ -80,22 +78,20 @@ fn by_lon(
     half: Half,
     sought: Sought,
     left: u32,
-    found: Choice,
-) -> Choice
+    found: Option<Cell>,
+) -> Option<Cell>
     requires { ByLon (boundary_of numbers.now) room.old half sought left found }
     ensures first { First (boundary_of numbers.now) (sought.finest - left / 2) sought.finest half.ground found result }
     ensures same { Same half.to room.old room.new }
 {
-    let ground = half.ground;
-    let west = ground.west;
-    let south = ground.south;
+    let Rectangle { west, south, .. } = half.ground;
     let level = sought.finest - left / 2;
     if settled(found, west, level, sought) {
         return found;
     }
     let said = test(numbers, room, half, sought);
     if let Tested::Inside = said {
-        return Choice::At(Cell { level, west, south });
+        return Some(Cell { level, west, south });
     }
     let Tested::Met(place) = said else {
         return found;

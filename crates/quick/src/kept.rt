@@ -5,7 +5,7 @@ ghost use Rattle.facts.specs.Tests.{differ};
 ghost use Rattle.edge.specs.Edge.{edge, beyond, misses, turns};
 ghost use Rattle.boundary.specs.Closed.{oddly};
 ghost use Rattle.boundary.specs.Listed.{boundary_of, edge_in};
-ghost use Rattle.quick.specs.Half.{kept_in, meeting, NearFirst, MetFirst, Same, Sound};
+ghost use Rattle.quick.specs.Half.{kept_in, meeting, MetFirst, FoundFirst, Same, Sound};
 
 use crate::half::Half;
 use crate::halves::starting_at;
@@ -36,22 +36,6 @@ fn edge_at(room: &[u32], i: usize) -> Ends
     }
 }
 
-// The first place from one on whose edge is not beyond a side of ground: most are, and comparisons tell it.
-fn next_near(room: &[u32], ground: Rectangle, from: usize, to: usize) -> usize
-    requires { 4 * to ≤ length room.now }
-    ensures { NearFirst room.now ground from to result }
-{
-    let mut i = from;
-    while i < to {
-        let e = edge_at(room, i);
-        if !edge::beyond(e.a, e.b, ground) {
-            return i;
-        }
-        i += 1;
-    }
-    i
-}
-
 // Whether an edge that is not beyond a side meets ground. An end strictly within tells it without products.
 fn meets(a: Point, b: Point, ground: Rectangle) -> bool
     requires { beyond (edge a b) ground ≡ false }
@@ -60,22 +44,19 @@ fn meets(a: Point, b: Point, ground: Rectangle) -> bool
     edge::end_within(a, b, ground) || !edge::aside(a, b, ground)
 }
 
-// The place of the first of a half's edges that meets it, or one past all of them.
-pub(crate) fn first_met(room: &[u32], half: Half) -> usize
+// The place of the first of a half's edges that meets it. Most are beyond a side, and comparisons tell it.
+pub(crate) fn first_met(room: &[u32], half: Half) -> Option<usize>
     requires { 4 * half.to ≤ length room.now }
-    ensures { MetFirst room.now half.ground half.first half.to result }
+    ensures { FoundFirst room.now half.ground half.first half.to result }
 {
     let ground = half.ground;
-    let to = half.to;
-    let mut i = next_near(room, ground, half.first, to);
-    while i < to {
+    for i in half.first..half.to {
         let e = edge_at(room, i);
-        if meets(e.a, e.b, ground) {
-            return i;
+        if !edge::beyond(e.a, e.b, ground) && meets(e.a, e.b, ground) {
+            return Some(i);
         }
-        i = next_near(room, ground, i + 1, to);
     }
-    i
+    None
 }
 
 // The count at a half's corner, turned by each of its edges on the way to a point.
@@ -87,11 +68,9 @@ pub(crate) fn odd_at(room: &[u32], half: Half, q: Point) -> bool
     let east = half.east;
     let to = half.to;
     let mut odd = half.odd;
-    let mut i = half.from;
-    while i < to {
+    for i in half.from..to {
         let e = edge_at(room, i);
         odd = odd != crossing::turns(p, q, east, e.a, e.b);
-        i += 1;
     }
     odd
 }
@@ -104,14 +83,12 @@ fn keep(room: &mut [u32], ground: Rectangle, from: usize, to: usize) -> usize
     ensures same { Same to room.old room.new }
 {
     let mut end = to;
-    let mut i = from;
-    while i < to {
+    for i in from..to {
         let e = edge_at(room, i);
         if !edge::beyond(e.a, e.b, ground) && meets(e.a, e.b, ground) {
             put_edge(room, end, e.a, e.b);
             end += 1;
         }
-        i += 1;
     }
     end
 }

@@ -9,7 +9,7 @@ use crate::kept::{first_met, odd_at};
 use ground::Rectangle;
 
 // What the test says of a half: it is passed over; or it is inside, or an edge meets it, the first at a
-// place.
+// place. It has three cases, and so is no Option.
 #[derive(Drop)]
 pub enum Tested {
     PassedOver,
@@ -21,9 +21,7 @@ pub enum Tested {
 fn common(low: u32, high: u32, from: u32, to: u32) -> u32
     ensures { result ≡ Half·common low high from to }
 {
-    let start = angles::greater(low, from);
-    let end = angles::lesser(high, to);
-    if start < end { end - start } else { 0 }
+    high.min(to).saturating_sub(low.max(from))
 }
 
 // Whether ground has less of the extents in it than a width.
@@ -48,8 +46,7 @@ pub(crate) fn test(numbers: &[u32], room: &[u32], half: Half, sought: Sought) ->
     if too_little(ground, sought.extents, sought.least) {
         return Tested::PassedOver;
     }
-    let place = first_met(room, half);
-    if place < half.to {
+    if let Some(place) = first_met(room, half) {
         return Tested::Met(place);
     }
     if odd_at(room, half, ground::south_west(ground)) {

@@ -1,10 +1,11 @@
 // The search for the chosen cell, from the first level whose cells can fit the extents: each level, or some
-// together, by halving the cells of a coarser level that lie over the extents.
-ghost use Rattle.std.specs.Prelude.{◌+◌, ◌≤◌, ◌<◌, ◌≡◌};
+// together, by halving the cells of a coarser level that lie over the extents. What several functions require
+// ties the lent room to the numbers and to what is sought; a struct of all these would be plainer nowhere, as
+// each function needs other parts and the room changes.
+ghost use Rattle.std.specs.Prelude.{◌+◌, ◌≤◌, ◌<◌, ◌≡◌, None};
 ghost use Rattle.ground.specs.Levels.{coarsest_level, finest_level, IsLevel};
 ghost use Rattle.ground.specs.Halves.{Ground};
 ghost use Rattle.boundary.specs.Listed.{boundary_of};
-ghost use Rattle.chosen.specs.declared.Choice.TheVariants.{Nowhere};
 ghost use Rattle.chosen.specs.Chosen.{choose, Over};
 ghost use Rattle.quick.specs.Half.{AllIn};
 ghost use Rattle.quick.specs.First.{First, Past};
@@ -12,8 +13,7 @@ ghost use Rattle.quick.specs.Descent.{Seeks, Levels, Column, column, everywhere,
 
 use crate::half::{Half, Sought};
 use crate::halving::{by_lat, settled};
-use chosen::Choice;
-use ground::{COARSEST, FINEST, LON_END, Lat, Lon, Point, Rectangle};
+use ground::{COARSEST, Cell, FINEST, LON_END, Lat, Lon, Point, Rectangle};
 
 // Whether cells of a level are too wide for the extents.
 fn too_wide(r: Rectangle, level: u32) -> bool
@@ -28,14 +28,12 @@ fn first_level(r: Rectangle) -> u32
     ensures lower_bound { (coarsest_level ≤ result) × (result ≤ finest_level + 1) }
     ensures too_wide_before { TooWideBefore r result }
 {
-    let mut level = COARSEST;
-    while level <= FINEST {
+    for level in COARSEST..=FINEST {
         if !too_wide(r, level) {
             return level;
         }
-        level += 1;
     }
-    level
+    FINEST + 1
 }
 
 // Whether so many cells of a level in a row are shorter than an extent. It only decides what a search
@@ -54,14 +52,10 @@ fn top_of(r: Rectangle, level: u32) -> u32
     requires { coarsest_level ≤ level }
     ensures { (coarsest_level ≤ result) × (result ≤ level) }
 {
-    let mut top = level;
-    while COARSEST < top {
-        if !short(r, top, 3) {
-            return top;
-        }
-        top -= 1;
-    }
-    top
+    (COARSEST + 1..=level)
+        .rev()
+        .find(|&top| !short(r, top, 3))
+        .unwrap_or(COARSEST)
 }
 
 // The first of what was found and of what is sought in a cell of the level to start from. The count is even
@@ -73,8 +67,8 @@ fn in_cell(
     cell: Rectangle,
     sought: Sought,
     top: u32,
-    found: Choice,
-) -> Choice
+    found: Option<Cell>,
+) -> Option<Cell>
     requires all_in { AllIn (boundary_of numbers.now) room.old count }
     requires seeks { Seeks (boundary_of numbers.now) sought }
     requires levels { Levels sought.finest top }
@@ -83,9 +77,7 @@ fn in_cell(
     ensures first { First (boundary_of numbers.now) top sought.finest cell found result }
     ensures all_in_2 { AllIn (boundary_of numbers.now) room.new count }
 {
-    let r = sought.extents;
-    let north = r.north;
-    let west = r.west;
+    let Rectangle { north, west, .. } = sought.extents;
     let half = Half {
         ground: cell,
         corner: Point {
@@ -109,7 +101,8 @@ fn in_cell(
 }
 
 // The first of what was found before and of what is sought between two sides of the level to start from:
-// that level's south sides in turn.
+// that level's south sides in turn. West sides have a function of their own, as latitude and longitude are
+// never mixed.
 fn in_column(
     numbers: &[u32],
     room: &mut [u32],
@@ -118,8 +111,8 @@ fn in_column(
     top: u32,
     west: Lon,
     east: Lon,
-    before: Choice,
-) -> Choice
+    before: Option<Cell>,
+) -> Option<Cell>
     requires all_in { AllIn (boundary_of numbers.now) room.old count }
     requires seeks { Seeks (boundary_of numbers.now) sought }
     requires levels { Levels sought.finest top }
@@ -131,11 +124,9 @@ fn in_column(
     if settled(before, west, top, sought) {
         return before;
     }
-    let r = sought.extents;
-    let from = r.south;
-    let to = r.north;
+    let to = sought.extents.north;
     let mut found = before;
-    let mut south = cells::low_side(top, from.0);
+    let mut south = cells::low_side(top, sought.extents.south.0);
     while south < to.0 {
         let north = cells::high_side(top, south) as u32;
         let cell = Rectangle {
@@ -151,18 +142,16 @@ fn in_column(
 }
 
 // The first of what is sought: west sides of the level to start from in turn.
-fn in_levels(numbers: &[u32], room: &mut [u32], count: usize, sought: Sought, top: u32) -> Choice
+fn in_levels(numbers: &[u32], room: &mut [u32], count: usize, sought: Sought, top: u32) -> Option<Cell>
     requires all_in { AllIn (boundary_of numbers.now) room.old count }
     requires seeks { Seeks (boundary_of numbers.now) sought }
     requires levels { Levels sought.finest top }
-    ensures first { First (boundary_of numbers.now) top sought.finest everywhere Nowhere result }
+    ensures first { First (boundary_of numbers.now) top sought.finest everywhere None result }
     ensures all_in_2 { AllIn (boundary_of numbers.now) room.new count }
 {
-    let r = sought.extents;
-    let from = r.west;
-    let to = r.east;
-    let mut found = Choice::Nowhere;
-    let mut west = cells::low_side(top, from.0);
+    let to = sought.extents.east;
+    let mut found = None;
+    let mut west = cells::low_side(top, sought.extents.west.0);
     while west < to.0 {
         let east = cells::high_side(top, west) as u32;
         found = in_column(
@@ -199,7 +188,7 @@ fn finest_with(r: Rectangle, level: u32) -> u32
 
 // The chosen cell: the levels in turn, some together. The edges of the boundary, so many, stand at the room's
 // start.
-pub(crate) fn search(numbers: &[u32], room: &mut [u32], count: usize, r: Rectangle) -> Choice
+pub(crate) fn search(numbers: &[u32], room: &mut [u32], count: usize, r: Rectangle) -> Option<Cell>
     requires all_in { AllIn (boundary_of numbers.now) room.old count }
     requires over { Over r (boundary_of numbers.now) }
     ensures { result ≡ choose r (boundary_of numbers.now) }
@@ -214,10 +203,10 @@ pub(crate) fn search(numbers: &[u32], room: &mut [u32], count: usize, r: Rectang
             least: ground::narrowest(finest),
         };
         let found = in_levels(numbers, room, count, sought, top_of(r, level));
-        if let Choice::At(c) = found {
-            return Choice::At(c);
+        if let Some(c) = found {
+            return Some(c);
         }
         level = finest + 1;
     }
-    Choice::Nowhere
+    None
 }

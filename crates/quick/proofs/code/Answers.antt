@@ -6,8 +6,8 @@ use Rattle.quick.proofs.code.Goals as goal
 pub chosen-requires : goal.chosen-requires
 chosen-requires c = search (rules, road_searches)
 
-pub returns-in-Refused : goal.returns-in-Refused
-returns-in-Refused c = search (rules, road_refused)
+pub returns-in_err-r : goal.returns-in_err-r
+returns-in_err-r c = search (rules, road_refused)
 
-pub returns-in-Over : goal.returns-in-Over
-returns-in-Over c = search (rules, road_ends)
+pub returns : goal.returns
+returns c = search (rules, road_ends)

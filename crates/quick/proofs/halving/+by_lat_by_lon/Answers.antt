@@ -1,16 +1,16 @@
 -- `quick::halving::by_lat` and `by_lon` meet their contracts, in one proof by the halvings that are left: what was found stays, or the half is
 -- the answer, or its parts are asked in turn and each is handed what the one before it found. Assumes nothing.
-use Prim.Native.Nat.{◌-◌}
+use Rattle.std.specs.Prelude.{ℕ, ◌-◌, Option}
 use native.Mathlib.Omega.{arith}
 use mathlib.Core.Path.{◌≡◌, refl, sym, ap, subst, ◌∙◌}
 use mathlib.Core.Bool.{false}
 use mathlib.Core.List.{List}
 use borrow.Author.Rules.{rules}
 use Rattle.ground.specs.declared.Rectangle.{Rectangle}
+use Rattle.ground.specs.declared.Cell.{Cell}
 use Rattle.edge.specs.Edge.{Edge}
 use Rattle.boundary.specs.Boundary.{unmet}
 use Rattle.boundary.specs.Listed.{boundary_of}
-use Rattle.chosen.specs.declared.Choice.{Choice}
 use Rattle.quick.specs.declared.half.Half.{Half}
 use Rattle.quick.specs.Half.{Same, Sound}
 use Rattle.quick.specs.HalfLaws.{met_unmet, sound_same, sound_starting, same_then}
@@ -20,13 +20,12 @@ use Rattle.quick.specs.DescentLaws.{settled_first}
 use Rattle.quick.specs.DescentLaws.{lat_inside, lat_end_lem, lat_own, lat_below, lat_whole, lat_south, lat_north, lat_joined}
 use Rattle.quick.specs.DescentLaws.{lon_inside, lon_own, lon_whole, lon_same, lon_west, lon_east, lon_joined}
 use Rattle.quick.proofs.halving.+by_lat_by_lon.Goals as goal
-use Prim.Native.Nat.{ℕ}
 
 -- What is so of ground or of a half is so of it by another name
-first_on : {es : List Edge} {from finest : ℕ} {found a : Choice} {g r : Rectangle} → g ≡ r → First es from finest g found a → First es from finest r found a
+first_on : {es : List Edge} {from finest : ℕ} {found a : Option Cell} {g r : Rectangle} → g ≡ r → First es from finest g found a → First es from finest r found a
 first_on {es} {from} {finest} {found} {a} e f = subst (λ (x : Rectangle). First es from finest x found a) e f
 
-first_as : {es : List Edge} {from finest : ℕ} {found a : Choice} {h k : Half} → h ≡ k → First es from finest h.ground found a
+first_as : {es : List Edge} {from finest : ℕ} {found a : Option Cell} {h k : Half} → h ≡ k → First es from finest h.ground found a
     → First es from finest k.ground found a
 first_as {es} {from} {finest} {found} {a} e f = subst (λ (x : Half). First es from finest x.ground found a) e f
 
@@ -124,17 +123,6 @@ by_lon-by_lat-requires t c =
     let sound = subst (Sound es c.args.room.now) (sym own) (sound_starting c.requires.sound c.in-Met.ensures.fact.1) in
     let owned = lon_own c.requires (ap (λ (h : Half). h.ground) own) sound in
     (omega (arith, c.decreases, c.requires.odd), lon_whole owned c.lon_split-at.ensures c.if-at-own.true)
-
-pub by_lon-returns-then-at-own : goal.by_lon-returns-then-at-own
-by_lon-returns-then-at-own t c =
-    let own = c.starting_at-own.ensures in
-    let es = boundary_of c.args.numbers.now in
-    let sound = subst (Sound es c.args.room.now) (sym own) (sound_starting c.requires.sound c.in-Met.ensures.fact.1) in
-    let owned = lon_own c.requires (ap (λ (h : Half). h.ground) own) sound in
-    record {
-      first = first_as own (lon_same owned c.lon_split-at.ensures c.by_lat.result c.by_lat.ensures.first);
-      same = same_as c.args.room.now c.by_lat.new.room own c.by_lat.ensures.same;
-    }
 
 pub by_lon-by_lat-first-requires : goal.by_lon-by_lat-first-requires
 by_lon-by_lat-first-requires t c =

@@ -1,10 +1,6 @@
--- `quick::kept::first_met` meets its contract: those before place i miss, and the one there is not beyond a side. Assumes nothing.
-use Prim.Native.Nat.{◌-◌}
-use Rattle.quick.specs.Half.{NearFirst}
+-- `quick::kept::first_met` meets its contract: those before place i miss. Assumes nothing.
+use Rattle.quick.specs.Half.{MissedTo}
 use Rattle.quick.proofs.kept.first_met.Given as goal
 
 abbrev pub invariant-loop-i : goal.invariant-loop-i
-invariant-loop-i l = NearFirst l.room l.ground l.initial.i l.to l.i
-
-abbrev pub decreases-loop-i : goal.decreases-loop-i
-decreases-loop-i l = l.to - l.i
+invariant-loop-i l = MissedTo l.room l.ground l.fn.half.first l.i

@@ -17,17 +17,6 @@ use Rattle.quick.proofs.kept.keep.Goals.{
   else-not-beyond-via-else-not-beyond,
 }
 
-pub loop-i-init : goal.loop-i-init
-loop-i-init c = moved_begin _ _ _ _ c.requires.0
-
-pub edge_at-e-requires : goal.edge_at-e-requires
-edge_at-e-requires c =
-    let inv = c.loop-i.invariant in
-    omega (arith, c.loop-i-test.true, inv.long, c.requires.0, c.requires.1)
-
-pub meets-requires : goal.meets-requires
-meets-requires c = sym c.beyond.ensures ∙ c.if-not-beyond.true
-
 pub loop-i-preserved : goal.loop-i-preserved
 loop-i-preserved c =
     let place : c.loop-i.end < length c.loop-i.room / 4 = let inv = c.loop-i.invariant in omega (arith, c.loop-i-test.true, inv.few, inv.long, c.requires.1) in
@@ -47,11 +36,3 @@ loop-i-preserved c =
             | else-not-beyond-via-else-not-beyond v ↦ misses_beyond _ _ (beyond_told ∙ v.if-not-beyond.false)
           ]))
     ]
-
-pub shape_of-room : goal.shape_of-room
-shape_of-room c = c.loop-i.invariant.long
-
-pub returns : goal.returns
-returns c =
-    let inv = c.loop-i.invariant in
-    record { result_after = moved_end inv c.loop-i-test.false; lower_bound = (inv.first, omega (arith, inv.few, inv.last, c.requires.0, c.requires.1)); same = inv.same }

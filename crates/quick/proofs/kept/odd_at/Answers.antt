@@ -3,12 +3,6 @@ use mathlib.Core.Path.{refl}
 use Rattle.quick.specs.HalfLaws.{odd_again, odd_end}
 use Rattle.quick.proofs.kept.odd_at.Goals as goal
 
-pub loop-i-init : goal.loop-i-init
-loop-i-init c = record { rest = refl }
-
 pub loop-i-preserved : goal.loop-i-preserved
 loop-i-preserved c =
     odd_again c.loop-i.invariant c.loop-i-test.true c.turns-odd.ensures c.edge_at-e.ensures
-
-pub returns : goal.returns
-returns c = odd_end c.loop-i.invariant c.loop-i-test.false

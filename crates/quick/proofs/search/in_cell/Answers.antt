@@ -12,11 +12,6 @@ pub by_lat-requires : goal.by_lat-requires
 by_lat-requires c =
     by_lat_all c.requires.all_in c.requires.seeks (top_level c.requires.levels) c.requires.halved c.requires.levels c.requires.past
 
-pub returns : goal.returns
-returns c =
-    let a = c.args in
-    record {
-      first = subst (λ (n : ℕ). First (boundary_of a.numbers.now) n a.sought.finest a.cell a.found c.by_lat.result) (two_each c.requires.levels)
-          c.by_lat.ensures.first;
-      all_in_2 = all_same c.requires.all_in (search rules) c.by_lat.ensures.same;
-    }
+pub returns-clause-all_in_2 : goal.returns-clause-all_in_2
+returns-clause-all_in_2 c =
+    all_same c.requires.all_in (search rules) c.by_lat.ensures.same

@@ -8,9 +8,9 @@ use Rattle.quick.specs.DescentLaws.{settled_first}
 use Rattle.quick.specs.SearchLaws.{top_level, north_most, column_begin, column_past, column_again, column_end}
 use Rattle.quick.proofs.search.in_column.Goals as goal
 
-pub returns-then-settled : goal.returns-then-settled
-returns-then-settled c =
-    record { first = settled_first c.requires.seeks c.requires.past (cc (c.settled.ensures, c.if-settled.true)); all_in_2 = c.requires.all_in }
+pub returns-then-settled-clause-first : goal.returns-then-settled-clause-first
+returns-then-settled-clause-first c =
+    settled_first c.requires.seeks c.requires.past (cc (c.settled.ensures, c.if-settled.true))
 
 pub loop-south-init : goal.loop-south-init
 loop-south-init c =
@@ -21,21 +21,19 @@ overflow_cast-north c =
     let next : c.high_side-north.result ≤ lat_end = omega (arith, c.high_side-north.ensures, north_most c.requires.seeks.over c.requires.levels c.loop-south.invariant.2.is c.loop-south-test.true) in
     omega (arith, next)
 
-pub in_cell-found-requires : goal.in_cell-found-requires
-in_cell-found-requires c =
+pub in_cell-found-requires-clause-halved : goal.in_cell-found-requires-clause-halved
+in_cell-found-requires-clause-halved c =
     let next : c.high_side-north.result ≤ lat_end = omega (arith, c.high_side-north.ensures, north_most c.requires.seeks.over c.requires.levels c.loop-south.invariant.2.is c.loop-south-test.true) in
     record {
-      all_in = c.loop-south.invariant.0;
-      seeks = c.requires.seeks;
-      levels = c.requires.levels;
-      halved = record {
-        lat = record { low = c.loop-south.invariant.2.is; high = c.high_side-north.ensures };
-        lon = c.requires.column.lon;
-        north_end = next;
-        east_end = c.requires.column.east_end;
-      };
-      past = column_past c.requires.seeks.over c.requires.levels c.loop-south.invariant.2 c.high_side-north.result c.requires.past;
+      lat = record { low = c.loop-south.invariant.2.is; high = c.high_side-north.ensures };
+      lon = c.requires.column.lon;
+      north_end = next;
+      east_end = c.requires.column.east_end;
     }
+
+pub in_cell-found-requires-clause-past : goal.in_cell-found-requires-clause-past
+in_cell-found-requires-clause-past c =
+    column_past c.requires.seeks.over c.requires.levels c.loop-south.invariant.2 c.high_side-north.result c.requires.past
 
 pub loop-south-smaller : goal.loop-south-smaller
 loop-south-smaller c =
@@ -49,9 +47,6 @@ loop-south-preserved c = (
       c.loop-south-test.true c.high_side-north.ensures c.in_cell-found.ensures.first,
 )
 
-pub shape_of-room : goal.shape_of-room
-shape_of-room c = c.loop-south.invariant.1
-
-pub returns : goal.returns
-returns c =
-    record { first = column_end c.requires.seeks.over c.requires.levels c.loop-south.invariant.2 c.low_side-south.ensures c.loop-south-test.false; all_in_2 = c.loop-south.invariant.0 }
+pub returns-clause-first : goal.returns-clause-first
+returns-clause-first c =
+    column_end c.requires.seeks.over c.requires.levels c.loop-south.invariant.2 c.low_side-south.ensures c.loop-south-test.false

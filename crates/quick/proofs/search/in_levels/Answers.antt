@@ -16,19 +16,14 @@ overflow_cast-east c =
     let next : c.high_side-east.result ≤ lon_end = omega (arith, c.high_side-east.ensures, east_most c.requires.seeks.over c.requires.levels c.loop-west.invariant.2.is c.loop-west-test.true) in
     omega (arith, next)
 
-pub in_column-found-requires : goal.in_column-found-requires
-in_column-found-requires c =
+pub in_column-found-requires-clause-column : goal.in_column-found-requires-clause-column
+in_column-found-requires-clause-column c =
     let next : c.high_side-east.result ≤ lon_end = omega (arith, c.high_side-east.ensures, east_most c.requires.seeks.over c.requires.levels c.loop-west.invariant.2.is c.loop-west-test.true) in
-    record {
-      all_in = c.loop-west.invariant.0;
-      seeks = c.requires.seeks;
-      levels = c.requires.levels;
-      column = record {
-        lon = record { low = c.loop-west.invariant.2.is; high = c.high_side-east.ensures };
-        east_end = next;
-      };
-      past = east_past c.requires.seeks.over c.requires.levels c.loop-west.invariant.2 (lon c.high_side-east.result);
-    }
+    record { lon = record { low = c.loop-west.invariant.2.is; high = c.high_side-east.ensures }; east_end = next }
+
+pub in_column-found-requires-clause-past : goal.in_column-found-requires-clause-past
+in_column-found-requires-clause-past c =
+    east_past c.requires.seeks.over c.requires.levels c.loop-west.invariant.2 (lon c.high_side-east.result)
 
 pub loop-west-smaller : goal.loop-west-smaller
 loop-west-smaller c =
@@ -42,9 +37,6 @@ loop-west-preserved c = (
       c.loop-west-test.true c.high_side-east.ensures c.in_column-found.ensures.first,
 )
 
-pub shape_of-room : goal.shape_of-room
-shape_of-room c = c.loop-west.invariant.1
-
-pub returns : goal.returns
-returns c =
-    record { first = east_end c.requires.seeks.over c.requires.levels c.loop-west.invariant.2 c.loop-west-test.false; all_in_2 = c.loop-west.invariant.0 }
+pub returns-clause-first : goal.returns-clause-first
+returns-clause-first c =
+    east_end c.requires.seeks.over c.requires.levels c.loop-west.invariant.2 c.loop-west-test.false
