@@ -92,10 +92,6 @@ missed_then {room} {r} {from} {to} {end} m n = record { each = λ j h k. at j h 
     at j h k (inl l) = n.each j l k
     at j h k (inr l) = m.each j h l
 
--- none up to the first
-pub missed_none : (room : List ℕ) (r : Rectangle) (from : ℕ) → MissedTo room r from from
-missed_none room r from = record { each = λ j h k. let none : ⊥ = omega arith in absurd none }
-
 -- and one more
 pub missed_again : {room : List ℕ} {r : Rectangle} {from i : ℕ} → MissedTo room r from i → misses (edge_in room i) r ≡ true → MissedTo room r from (i + 1)
 missed_again {room} {r} {from} {i} m t = missed_then m (record { each = λ j h k. one j h k })

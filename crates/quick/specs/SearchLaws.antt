@@ -30,28 +30,6 @@ use Rattle.quick.specs.First.{Wanted, Gained, First, Past}
 use Rattle.quick.specs.FirstLaws.{before_most, first_stays, first_all, first_lat, first_lon, past_first}
 use Rattle.quick.specs.Descent.{Seeks, ByLat, Levels, column, everywhere, too_wide, TooWideBefore, NoneCoarser}
 
--- An answer of two tests in turn: the first where it holds
-pub or_first : {w a : Bool} (b : Bool) → w ≡ a → w ≡ true → w ≡ (a || b)
-or_first b is t = t ∙ sym (ap (λ (x : Bool). x || b) (sym is ∙ t))
-
--- else the second
-pub or_second : {v w a b : Bool} → v ≡ a → v ≡ false → w ≡ b → w ≡ (a || b)
-or_second {b = b} is f e = e ∙ sym (ap (λ (x : Bool). x || b) (sym is ∙ f))
-
--- At first there is no level before
-pub wide_begin : (r : Rectangle) → TooWideBefore r coarsest_level
-wide_begin r n less least = let none : ⊥ = omega arith in absurd none
-
--- One more level that is too wide
-pub wide_again : (r : Rectangle) {level : ℕ} → TooWideBefore r level → too_wide r level ≡ true → TooWideBefore r (level + 1)
-wide_again r {level} before wide n less least =
-    let most : n ≤ level = omega arith in
-    at (eq-or-lt_of_le most)
-  where
-    at : (n ≡ level) ⊎ (n < level) → too_wide r n ≡ true
-    at (inl e) = subst (λ (m : ℕ). too_wide r m ≡ true) (sym e) wide
-    at (inr l) = before n l least
-
 -- A cell of a level that is too wide is not inside
 pub wide_none : {r : Rectangle} {es : List Edge} → Over r es → (d : Cell) → IsCell d → inside es d ≡ true
     → too_wide r d.level ≡ true → ⊥
