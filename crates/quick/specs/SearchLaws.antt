@@ -1,7 +1,7 @@
 -- The laws of the search: levels that are too wide, the half that a descent starts from, the answers for the ground of a column and for all
 -- ground, as the loops carry them on, and the chosen cell that they give. Assumes nothing.
-use Rattle.std.specs.Prelude.{ℕ, ◌+◌, ◌-◌, ◌*◌, ◌/◌, ◌≤◌, ◌<◌, ◌≡◌, refl, ◌⊎◌, Bool, true, false, ◌||◌, List, ltb, Option, Some, None}
-use Rattle.std.proofs.Common.{eq-or-lt_of_le, arith, sym, ap, subst, ◌∙◌, inl, inr, ltb-true}
+use Rattle.std.specs.Prelude.{ℕ, ◌+◌, ◌-◌, ◌*◌, ◌/◌, ◌≤◌, ◌<◌, ◌≡◌, refl, ◌⊎◌, true, false, List, ltb, Option, Some, None}
+use Rattle.std.proofs.Common.{arith, sym, subst, inl, inr, ltb-true}
 use Rattle.facts.specs.Tests.{either, true_of, holds}
 use Rattle.facts.specs.Numbers.{either_way}
 use Rattle.facts.specs.Lists.{each_so}

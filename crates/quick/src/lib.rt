@@ -19,7 +19,10 @@ use unit::{Kind, Refusal};
 
 // The chosen cell, with rooms of these sizes lent to the search: for the edges, first all of them and behind
 // them those that are kept for halves, and for the places where they start.
-fn chosen_with<const ROOM: usize, const PLACES: usize>(numbers: &[u32], r: Rectangle) -> Option<Cell>
+fn chosen_with<const ROOM: usize, const PLACES: usize>(
+    numbers: &[u32],
+    r: Rectangle,
+) -> Option<Cell>
     requires over { Over r (boundary_of numbers.now) }
     requires numbers_in_bounds { (length numbers.now / 2 ≤ ROOM / 4) × (length numbers.now / 2 ≤ PLACES) }
     requires sizes_fit { (4 * ROOM < 2 ^ 63) × (8 * PLACES < 2 ^ 63) }

@@ -142,7 +142,13 @@ fn in_column(
 }
 
 // The first of what is sought: west sides of the level to start from in turn.
-fn in_levels(numbers: &[u32], room: &mut [u32], count: usize, sought: Sought, top: u32) -> Option<Cell>
+fn in_levels(
+    numbers: &[u32],
+    room: &mut [u32],
+    count: usize,
+    sought: Sought,
+    top: u32,
+) -> Option<Cell>
     requires all_in { AllIn (boundary_of numbers.now) room.old count }
     requires seeks { Seeks (boundary_of numbers.now) sought }
     requires levels { Levels sought.finest top }

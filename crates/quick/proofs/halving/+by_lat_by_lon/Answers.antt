@@ -18,7 +18,7 @@ use Rattle.quick.specs.First.{First}
 use Rattle.quick.specs.Descent.{ByLat, ByLon}
 use Rattle.quick.specs.DescentLaws.{settled_first}
 use Rattle.quick.specs.DescentLaws.{lat_inside, lat_end_lem, lat_own, lat_below, lat_whole, lat_south, lat_north, lat_joined}
-use Rattle.quick.specs.DescentLaws.{lon_inside, lon_own, lon_whole, lon_same, lon_west, lon_east, lon_joined}
+use Rattle.quick.specs.DescentLaws.{lon_inside, lon_own, lon_whole, lon_west, lon_east, lon_joined}
 use Rattle.quick.proofs.halving.+by_lat_by_lon.Goals as goal
 
 -- What is so of ground or of a half is so of it by another name

@@ -8,7 +8,7 @@ use borrow.Author.Tests.{not-true, not-false}
 use Rattle.edge.specs.Edge.{Edge, edge, beyond, misses}
 use Rattle.edge.specs.MissesLaws.{misses_beyond}
 use Rattle.boundary.specs.Listed.{edge_in}
-use Rattle.quick.specs.HalfLaws.{moved_begin, moved_missed, moved_added, moved_end, moved_as}
+use Rattle.quick.specs.HalfLaws.{moved_missed, moved_added, moved_as}
 use Rattle.quick.proofs.kept.keep.Goals as goal
 use Rattle.quick.proofs.kept.keep.Goals.{
   then-not-beyond+then-meets,

@@ -1,6 +1,5 @@
 -- `quick::kept::odd_at` meets its contract: the count so far, with the turns of the edges from place i on. Assumes nothing.
-use mathlib.Core.Path.{refl}
-use Rattle.quick.specs.HalfLaws.{odd_again, odd_end}
+use Rattle.quick.specs.HalfLaws.{odd_again}
 use Rattle.quick.proofs.kept.odd_at.Goals as goal
 
 pub loop-i-preserved : goal.loop-i-preserved

@@ -1,6 +1,6 @@
 -- `quick::passing::test` meets its contract: by each of its answers. Assumes nothing.
-use mathlib.Core.Path.{◌≡◌, refl, sym, ap, subst, ◌∙◌}
-use mathlib.Core.Bool.{true, false≢true}
+use mathlib.Core.Path.{◌≡◌, sym, ap, subst, ◌∙◌}
+use mathlib.Core.Bool.{true}
 use Rattle.ground.specs.Rectangles.{Lies}
 use Rattle.ground.specs.RectanglesLaws.{corner_lies}
 use Rattle.boundary.specs.Boundary.{point_inside, unmet}

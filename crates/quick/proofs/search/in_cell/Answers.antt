@@ -1,11 +1,7 @@
 -- `quick::search::in_cell` meets its contract: a descent from the cell, with all edges. Assumes nothing.
-use Prim.Native.Nat.{ℕ}
-use mathlib.Core.Path.{subst}
 use borrow.Author.Rules.{rules}
-use Rattle.boundary.specs.Listed.{boundary_of}
-use Rattle.quick.specs.First.{First}
 use Rattle.quick.specs.HalfLaws.{all_same}
-use Rattle.quick.specs.SearchLaws.{top_level, by_lat_all, two_each}
+use Rattle.quick.specs.SearchLaws.{top_level, by_lat_all}
 use Rattle.quick.proofs.search.in_cell.Goals as goal
 
 pub by_lat-requires : goal.by_lat-requires

@@ -3,7 +3,7 @@ use borrow.Author.Rules.{rules}
 use native.Mathlib.Omega.{arith}
 use mathlib.Core.Path.{sym}
 use Rattle.quick.specs.Descent.{Levels}
-use Rattle.quick.specs.SearchLaws.{seeks_begin, levels_begin, levels_found, levels_again, levels_end}
+use Rattle.quick.specs.SearchLaws.{levels_begin, levels_found, levels_end}
 use Rattle.quick.proofs.search.search.Goals as goal
 
 pub loop-level-init : goal.loop-level-init
