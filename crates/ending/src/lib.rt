@@ -22,7 +22,7 @@ fn end(room: &mut [u8], f: Fields) -> Result<(), Refusal>
 }
 
 // The end of coding around a cell; 7 where it is no cell of levels 9 to 27 within the range, or has no code.
-#[tactic(auto, using(ground::proofs::CellsLaws::found_of, ground::proofs::CellsLaws::found_none, unit::specs::FrameLaws::finish_cell, unit::specs::FrameLaws::finish_none))]
+#[tactic(auto, using(crate::proofs::Drawn::around))]
 fn end_at(room: &mut [u8], r: Rectangle, number: u32, c: Cell) -> Result<(), Refusal>
     ensures { leaves result room.new ≡ finishing room.old r number (Some c) }
 {
@@ -35,7 +35,7 @@ fn end_at(room: &mut [u8], r: Rectangle, number: u32, c: Cell) -> Result<(), Ref
 
 // The end of coding, from the unit's extremes, its number and what a search hands in; 7 where that is none,
 // is no cell, or has fields that cannot be written.
-#[tactic(auto, using(unit::specs::FrameLaws::finish_nowhere))]
+#[tactic(auto, using(crate::proofs::Drawn::around))]
 pub fn finish(
     room: &mut [u8],
     r: Rectangle,

@@ -6,7 +6,7 @@ use code::FINEST_SCALE;
 use ground::COARSEST;
 
 // The finest level, at most 27, whose nominal size times 32 is greater than a span; the coarsest where none is.
-#[tactic(auto, using(crate::specs::Scaling::scale_begin, crate::specs::Scaling::scale_before, ground::proofs::LevelsLaws::size_most))]
+#[tactic(auto, using(crate::proofs::Drawn::scaling))]
 pub fn scale_of(span: u32) -> u32
     ensures { result ≡ scale_of span }
 {

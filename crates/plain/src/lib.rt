@@ -27,6 +27,7 @@ fn chosen(edges: &[u32], r: Rectangle) -> Option<Cell>
 }
 
 // The chosen cell of a unit: its edges are listed in a room for 1,024 of them, and searched.
+#[tactic(auto, using(unit::specs::FrameLaws::road_fits))]
 fn chosen_of(numbers: &[u32], r: Rectangle) -> Option<Cell>
     requires { Searched numbers.now r }
     ensures { result ≡ choose r (boundary_of numbers.now) }
@@ -39,6 +40,7 @@ fn chosen_of(numbers: &[u32], r: Rectangle) -> Option<Cell>
 
 // Codes a unit, for all inputs: writes bytes 0 to 19 of the room, or refuses and writes nothing. Its
 // cost grows with the corners times the cells of the levels tried that lie over the extents.
+#[tactic(auto, using(unit::specs::FrameLaws::road_refused, unit::specs::FrameLaws::road_ends))]
 pub fn code(room: &mut [u8], numbers: &[u32], kind: Kind, number: u32) -> Result<(), Refusal>
     ensures { leaves result room.new ≡ coding room.old numbers.now kind number }
 {

@@ -9,6 +9,7 @@ ghost use Rattle.plain.specs.Asked.{West};
 use ground::{Cell, Lat, Lon, Rectangle};
 
 // The first cell that is inside, of a level and a west side: south sides in turn.
+#[tactic(auto, using(crate::proofs::Searching::searching))]
 fn try_west(edges: &[u32], r: Rectangle, level: u32, west: Lon) -> Option<Cell>
     requires over { Over r (edges_in edges.now) }
     requires level { IsLevel level }
@@ -32,6 +33,7 @@ fn try_west(edges: &[u32], r: Rectangle, level: u32, west: Lon) -> Option<Cell>
 }
 
 // The first of a level: west sides in turn.
+#[tactic(auto, using(crate::proofs::Searching::searching))]
 pub(crate) fn try_level(edges: &[u32], r: Rectangle, level: u32) -> Option<Cell>
     requires over { Over r (edges_in edges.now) }
     requires level { IsLevel level }

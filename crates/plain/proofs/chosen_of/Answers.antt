@@ -1,22 +1,11 @@
 -- `plain::chosen_of` meets its contract: what is listed is the boundary. Assumes nothing.
-use Prim.Native.Nat.{◌-◌, ◌*◌, ◌≤◌}
-use native.Mathlib.Omega.{arith}
+use Prim.Native.Nat.{◌-◌, ◌*◌}
 use mathlib.Core.Path.{◌≡◌, ap, sym, subst, ◌∙◌}
 use lib.ListN.{take}
 use Rattle.boundary.specs.Listed.{edges_in, boundary_of}
 use Rattle.chosen.specs.Chosen.{choose, Over}
-use Rattle.unit.specs.FrameLaws.{road_fits, road_listed}
+use Rattle.unit.specs.FrameLaws.{road_listed}
 use Rattle.plain.proofs.chosen_of.Goals as goal
-
-pub overflow_mul-count : goal.overflow_mul-count
-overflow_mul-count c =
-    let fits : 4 * c.list_edges-count.result ≤ 4096 = road_fits c.args.numbers.now c.list_edges-count.ensures.value in
-    omega (arith, fits)
-
-pub slice_bounds-chosen-end : goal.slice_bounds-chosen-end
-slice_bounds-chosen-end c =
-    let fits : 4 * c.list_edges-count.result ≤ 4096 = road_fits c.args.numbers.now c.list_edges-count.ensures.value in
-    omega (arith, fits)
 
 pub chosen-requires : goal.chosen-requires
 chosen-requires c =
