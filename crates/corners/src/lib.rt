@@ -10,7 +10,7 @@ use ground::{Lat, Lon, Point};
 fn number(numbers: &[u32], k: usize) -> u32
     ensures { result ≡ get_or numbers.now k 0 }
 {
-    if k < numbers.len() { numbers[k] } else { 0 }
+    numbers.get(k).copied().unwrap_or(0)
 }
 
 // The corner at a place of the list; a coordinate that the list does not have is 0.
