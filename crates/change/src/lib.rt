@@ -87,14 +87,15 @@ fn lowered(total: u64) -> u64
 }
 
 // What an activation changes, by the place of its code.
-fn activation(active: &[u64; PLACES], place: usize, code: Halves, number: u64, total: u64) -> Change
-    ensures { result ≡ activating active.now place code number total }
+fn activation(account: &Account, place: usize, code: Halves, number: u64) -> Change
+    ensures { result ≡ activating account.now.active place code number account.now.total }
 {
+    let total = account.total;
     let more = raised(total);
     if place < PLACES {
         return keep(Answer::Already, number, total);
     }
-    let free = places::free_place(active);
+    let free = places::free_place(&account.active);
     if free < PLACES {
         return Change {
             answer: Answer::Activated,
@@ -131,19 +132,12 @@ fn cancellation(place: usize, number: u64, total: u64) -> Change
 }
 
 // What either message changes, by the place of its code.
-fn act(
-    kind: Kind,
-    active: &[u64; PLACES],
-    place: usize,
-    code: Halves,
-    number: u64,
-    total: u64,
-) -> Change
-    ensures { result ≡ acting_at kind active.now place code number total }
+fn act(kind: Kind, account: &Account, place: usize, code: Halves, number: u64) -> Change
+    ensures { result ≡ acting_at kind account.now.active place code number account.now.total }
 {
     match kind {
-        Kind::Activate => activation(active, place, code, number, total),
-        Kind::Cancel => cancellation(place, number, total),
+        Kind::Activate => activation(account, place, code, number),
+        Kind::Cancel => cancellation(place, number, account.total),
     }
 }
 
@@ -156,7 +150,7 @@ pub fn change_at(kind: Kind, account: &Account, place: usize, code: Halves, numb
     if number <= account.last {
         return keep(Answer::Old, account.last, account.total);
     }
-    act(kind, &account.active, place, code, number, account.total)
+    act(kind, account, place, code, number)
 }
 
 // The same with the place looked up, but for an "old" message, whose code may be anywhere.

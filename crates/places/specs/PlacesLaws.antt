@@ -251,6 +251,38 @@ module _ (active : List ℕ) where
         (count_but (active_on (set active i 0)) (active_on active) i places h (ap not (set_here 0)) (ap not on)
         (λ k n. ap not (sym (set_other 0 k n))))
 
+-- A count that has gone through the places below i
+pub record Counted (active : List ℕ) (i count : ℕ) : Type 0 where
+  pub within : i ≤ places
+  pub most : count ≤ i
+  pub sum : count ≡ count_below (active_on active) i
+
+pub counted_begin : {active : List ℕ} → Counted active 0 0
+unfolding count_below
+counted_begin = record { within = omega arith; most = omega arith; sum = refl }
+
+module _ {active : List ℕ} {i count : ℕ} (p : Counted active i count) where
+  -- A place more, by whether it is free
+  counted_next : i < places → {next : ℕ} → next ≡ count_below (active_on active) (suc i) → Counted active (i + 1) next
+  counted_next h {next} e = record {
+    within = omega arith;
+    most = omega (arith, e, count_most (active_on active) (suc i));
+    sum = e ∙ ap (count_below (active_on active)) (sym (add-one i));
+  }
+
+  pub counted_active : i < places → is_free active i ≡ false → Counted active (i + 1) (count + 1)
+  unfolding count_below
+  counted_active h on = counted_next h (add-one count ∙ ap suc p.sum ∙ sym (rw on))
+
+  pub counted_free : i < places → is_free active i ≡ true → Counted active (i + 1) count
+  unfolding count_below
+  counted_free h free = counted_next h (p.sum ∙ sym (rw free))
+
+  -- It ends with all of them
+  pub counted_end : places ≤ i → count ≡ count_active active
+  unfolding count_active
+  counted_end h = p.sum ∙ ap (count_below (active_on active)) (omega (arith, h, p.within))
+
 -- What the library counts in a list of 256 numbers
 module _ (test : ℕ → Bool) (xs : List ℕ) where
   count_first : (n : ℕ) → n ≤ length xs → count_by test (take n xs) ≡ count_below (λ i. test (get_or xs i 0)) n
