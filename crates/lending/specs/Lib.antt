@@ -1,4 +1,4 @@
--- A lent account, the loops that take it in and hand it back, and that no second answer meets the promise.
+-- A lent account, the laws of arrays copied and of what a message or a replay leaves, and that no second answer meets the promise.
 pub mod Lending
 pub mod LendingLaws
 pub mod Once

@@ -60,27 +60,7 @@ fn answer_code(answer: Answer) -> u32
 fn is_account(high: &[u64], low: &[u64], active: &[u64]) -> bool
     ensures { result ≡ is_account high.now low.now active.now }
 {
-    if high.len() != PLACES {
-        return false;
-    }
-    if low.len() != PLACES {
-        return false;
-    }
-    active.len() == PLACES
-}
-
-// A lent array by value.
-fn array_of(lent: &[u64]) -> [u64; PLACES]
-    requires { length lent.now ≡ places }
-    ensures { result ≡ lent.now }
-{
-    let mut array = [0u64; PLACES];
-    let mut i = 0;
-    while i < PLACES {
-        array[i] = lent[i];
-        i += 1;
-    }
-    array
+    high.len() == PLACES && low.len() == PLACES && active.len() == PLACES
 }
 
 // A lent account by value.
@@ -90,29 +70,13 @@ fn taken_in(high: &[u64], low: &[u64], active: &[u64], last: u64, total: u64) ->
     requires active_len { length active.now ≡ places }
     ensures { result ≡ account_of high.now low.now active.now last total }
 {
-    let high = array_of(high);
-    let low = array_of(low);
-    let active = array_of(active);
-    Account {
-        high,
-        low,
-        active,
-        last,
-        total,
-    }
-}
-
-// Hands an array back to whoever lent it.
-fn hand_back(lent: &mut [u64], array: [u64; PLACES])
-    requires lent_len { length lent.old ≡ places }
-    requires array_len { length array ≡ places }
-    ensures { lent.new ≡ array }
-{
-    let mut i = 0;
-    while i < PLACES {
-        lent[i] = array[i];
-        i += 1;
-    }
+    let mut account = entitlements::empty();
+    account.high.copy_from_slice(high);
+    account.low.copy_from_slice(low);
+    account.active.copy_from_slice(active);
+    account.last = last;
+    account.total = total;
+    account
 }
 
 // Sends a message to a lent account, of any lengths.
@@ -128,26 +92,20 @@ pub fn send_lent(
 ) -> Lent
     ensures { lends result high.new low.new active.new ≡ lending kind high.old low.old active.old last total text.now number }
 {
-    let none = Lent {
-        answer: 40,
-        last,
-        total,
-    };
     if !is_account(high, low, active) {
-        return none;
+        return Lent {
+            answer: 40,
+            last,
+            total,
+        };
     }
     let answered = message::send(kind, taken_in(high, low, active, last, total), text, number);
-    let said = answered.answer;
-    let answer = answer_code(said);
     let next = answered.account;
-    let kept = next.high;
-    hand_back(high, kept);
-    let kept = next.low;
-    hand_back(low, kept);
-    let kept = next.active;
-    hand_back(active, kept);
+    high.copy_from_slice(&next.high);
+    low.copy_from_slice(&next.low);
+    active.copy_from_slice(&next.active);
     Lent {
-        answer,
+        answer: answer_code(answered.answer),
         last: next.last,
         total: next.total,
     }
@@ -158,30 +116,26 @@ pub fn send_lent(
 pub fn replay_lent(page: &[u8], high: &mut [u64], low: &mut [u64], active: &mut [u64]) -> LentReplay
     ensures { replays result high.new low.new active.new ≡ replayed_into high.old low.old active.old page.now }
 {
-    let none = LentReplay {
-        refusal: 40,
-        offset: 0,
-        activated: 0,
-        already: 0,
-        cancelled: 0,
-        inactive: 0,
-        old: 0,
-        full: 0,
-        last: 0,
-        total: 0,
-    };
     if !is_account(high, low, active) {
-        return none;
+        return LentReplay {
+            refusal: 40,
+            offset: 0,
+            activated: 0,
+            already: 0,
+            cancelled: 0,
+            inactive: 0,
+            old: 0,
+            full: 0,
+            last: 0,
+            total: 0,
+        };
     }
     let replayed = replaying::replay(page);
     let counts = replayed.counts;
     let account = replayed.account;
-    let kept = account.high;
-    hand_back(high, kept);
-    let kept = account.low;
-    hand_back(low, kept);
-    let kept = account.active;
-    hand_back(active, kept);
+    high.copy_from_slice(&account.high);
+    low.copy_from_slice(&account.low);
+    active.copy_from_slice(&account.active);
     LentReplay {
         refusal: replayed.refusal,
         offset: replayed.offset,
