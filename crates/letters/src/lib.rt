@@ -1,4 +1,5 @@
-// The thirty-two letters: spelling a number in base 32, and reading one back.
+// The thirty-two letters: spelling a number in base 32, and reading one back. Where there is no place
+// the length stands for it, and no Option: `value_in` and `first_other` of specs/ have it so.
 #![tactic(auto)]
 
 ghost use Rattle.std.specs.Prelude.{◌≡◌, ◌%◌, ◌^◌, length};
