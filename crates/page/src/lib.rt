@@ -68,7 +68,7 @@ pub fn found_number(found: Result<Option<Record>, LookError>) -> u32
     }
 }
 
-// The letter of a kind.
+// The letter of a kind. No From: the kind and its byte are both types of other crates.
 fn letter_of(kind: Kind) -> u8
     ensures { result ≡ Entitlements·letter_of kind }
 {
@@ -134,7 +134,8 @@ pub fn write_at(
     write_record(&mut page[offset..], kind, text, number)
 }
 
-// The number that letters spell, and 0 where a byte is no letter.
+// The number that letters spell, and 0 where a byte is no letter. No Option: 0 is refused as that is (54), and
+// `number_of` knows no third case.
 fn number_in(text: &[u8]) -> u64
     ensures { result ≡ number_of text.now }
 {

@@ -4,14 +4,14 @@ use Rattle.std.specs.Prelude.{◌≡◌, ℕ, zero, suc, ◌+◌, ◌-◌, ◌^�
 use Rattle.std.proofs.Common.{mod-eq_of_lt, arith, ap, sym, ◌∙◌, inl, inr, length-set, get_or-set_same, get_or-set_other, drop-drop, eq-eqb, ne_eqb, eqb-true, lt-ltb, le-ltb}
 use Rattle.std.proofs.lemmas.List.{length-replicate}
 use Rattle.std.proofs.lemmas.Bool.{eqb-false}
-use Rattle.halves.specs.declared.Halves.{Halves}
-use Rattle.halves.specs.Halves.{halves_by, code_in}
+use Rattle.halves.specs.Halves.{code_in}
 use Rattle.halves.specs.HalvesLaws.{code_reads}
 use Rattle.page.specs.declared.Record.{Record}
 use Rattle.page.specs.Page.{record_length, code_of, stretch_at, look_at}
 use Rattle.page.specs.Known.{code_by}
 use Rattle.page.proofs.PageLaws.{nothing_known, known_read, look_known, look_recorded, look_within, recorded_right}
-use Rattle.recall.specs.Recall.{slot_count, text_at, earlier_at, slot_of, slot_at, recalled, remembered, after_of}
+use Rattle.recall.specs.declared.Slot.{Slot}
+use Rattle.recall.specs.Recall.{slot_by, empty_slot, slot_count, text_at, earlier_at, slot_of, slot_at, recalled, remembered, after_of}
 
 -- ---- texts
 
@@ -45,64 +45,54 @@ slot_below text = omega arith
 -- ---- what slots have
 
 -- what a slot has: nothing, or a record whose code was read, with its halves
-abbrev Has : List ℕ → ℕ → ℕ → ℕ → Type 0
-Has page after high low = (after ≡ 0) ⊎ (code_in (earlier_at page after) ≡ Some (halves_by high low))
+abbrev Has : List ℕ → Slot → Type 0
+Has page slot = (slot.after ≡ 0) ⊎ (code_in (earlier_at page slot.after) ≡ Some slot.code)
 
 -- as many slots as there are, and each has that
-pub record Recalls (page records high low : List ℕ) : Type 0 where
-  pub many : length records ≡ slot_count
-  pub highs : length high ≡ slot_count
-  pub lows : length low ≡ slot_count
-  pub each : (slot : ℕ) → Has page (slice_index records slot) (slice_index high slot) (slice_index low slot)
+pub record Recalls (page : List ℕ) (slots : List Slot) : Type 0 where
+  pub many : length slots ≡ slot_count
+  pub each : (slot : ℕ) → Has page (slice_index_or slots slot empty_slot)
 
 -- No slot has anything
-abbrev pub empty_slots : List ℕ
-empty_slots = replicate slot_count 0
+abbrev pub empty_slots : List Slot
+empty_slots = replicate slot_count empty_slot
 
 -- at first
-slots_zero : (n slot : ℕ) → slice_index_or {A = ℕ} (replicate n 0) slot 0 ≡ 0
+slots_zero : (n slot : ℕ) → slice_index_or (replicate n empty_slot) slot empty_slot ≡ empty_slot
 slots_zero zero slot = refl
 slots_zero (suc n) zero = refl
 slots_zero (suc n) (suc slot) = slots_zero n slot
 
-pub recalls_begin : (page : List ℕ) → Recalls page empty_slots empty_slots empty_slots
+pub recalls_begin : (page : List ℕ) → Recalls page empty_slots
 recalls_begin page = record {
-  many = length-replicate {A = ℕ} slot_count 0;
-  highs = length-replicate {A = ℕ} slot_count 0;
-  lows = length-replicate {A = ℕ} slot_count 0;
-  each = λ (slot : ℕ). inl (slots_zero slot_count slot);
+  many = length-replicate slot_count empty_slot;
+  each = λ (slot : ℕ). inl (ap (λ (s : Slot). s.after) (slots_zero slot_count slot));
 }
 
-module _ {page records high low : List ℕ} (so : Recalls page records high low) (offset : ℕ) where
+module _ {page : List ℕ} {slots : List Slot} (so : Recalls page slots) (offset : ℕ) where
   -- So what is found is what reading finds
-  pub recalled_look : recalled records high low page offset ≡ look_at page offset
-  recalled_look = look_known (code_by (earlier_at page after) known) (of (so.each slot)) page offset
+  pub recalled_look : recalled slots page offset ≡ look_at page offset
+  recalled_look = look_known (code_by (earlier_at page here.after) here.code) (of (so.each (slot_at page offset))) page offset
     where
-      slot : ℕ
-      slot = slot_at page offset
+      here : Slot
+      here = slice_index_or slots (slot_at page offset) empty_slot
 
-      after : ℕ
-      after = slice_index records slot
-
-      known : Halves
-      known = halves_by (slice_index high slot) (slice_index low slot)
-
-      of : Has page after (slice_index high slot) (slice_index low slot) → (text : List ℕ) → code_by (earlier_at page after) known text ≡ code_in text
-      of (inl e) text = ap (λ (t : List ℕ). code_by t known text) (earlier_none page after e) ∙ nothing_known known text
-      of (inr e) text = known_read (earlier_at page after) known e text
+      of : Has page here → (text : List ℕ) → code_by (earlier_at page here.after) here.code text ≡ code_in text
+      of (inl e) text = ap (λ (t : List ℕ). code_by t here.code text) (earlier_none page here.after e) ∙ nothing_known here.code text
+      of (inr e) text = known_read (earlier_at page here.after) here.code e text
 
   -- and a record that was found can be remembered
-  pub recalls_note : {r : Record} → look_at page offset ≡ Ok (Some r) → length page < 2 ^ 64
-      → Recalls page (remembered records page offset (after_of offset)) (remembered high page offset r.code.high) (remembered low page offset r.code.low)
+  pub recalls_note : {r : Record} → look_at page offset ≡ Ok (Some r) → length page < 2 ^ 64 → Recalls page (remembered slots page offset r.code)
   recalls_note {r} f few = record {
-    many = length-set records slot (after_of offset) ∙ so.many;
-    highs = length-set high slot r.code.high ∙ so.highs;
-    lows = length-set low slot r.code.low ∙ so.lows;
+    many = length-set slots slot now ∙ so.many;
     each = λ (s : ℕ). at s (s == slot) refl;
   }
     where
       slot : ℕ
       slot = slot_at page offset
+
+      now : Slot
+      now = slot_by (after_of offset) r.code
 
       below : slot < slot_count
       below = slot_below (text_at page offset)
@@ -110,7 +100,7 @@ module _ {page records high low : List ℕ} (so : Recalls page records high low)
       next : after_of offset ≡ offset + 1
       next = mod-eq_of_lt (omega (arith, few, look_within page offset f))
 
-      read : code_in (earlier_at page (offset + 1)) ≡ Some (halves_by r.code.high r.code.low)
+      read : code_in (earlier_at page (offset + 1)) ≡ Some r.code
       read =
           let within = look_within page offset f in
           let recorded = look_recorded page offset f in
@@ -123,21 +113,9 @@ module _ {page records high low : List ℕ} (so : Recalls page records high low)
           ∙ code_reads (code_of (stretch_at page offset)) (recorded_right recorded).read
           ∙ ap (λ (s : Record). Some s.code) recorded.holds
 
-      at : (s : ℕ) (b : Bool) → (s == slot) ≡ b
-          → Has page (slice_index (slice_set records slot (after_of offset)) s) (slice_index (slice_set high slot r.code.high) s) (slice_index (slice_set low slot r.code.low) s)
-      at s true e =
-          rw (
-            eqb-true s slot e,
-            get_or-set_same records slot (after_of offset) 0 (omega (arith, below, so.many)),
-            get_or-set_same high slot r.code.high 0 (omega (arith, below, so.highs)),
-            get_or-set_same low slot r.code.low 0 (omega (arith, below, so.lows)),
-            next,
-          )
-          (inr read)
-      at s false e =
-          rw (
-            get_or-set_other records slot s (after_of offset) 0 (eqb-false s slot e),
-            get_or-set_other high slot s r.code.high 0 (eqb-false s slot e),
-            get_or-set_other low slot s r.code.low 0 (eqb-false s slot e),
-          )
-          (so.each s)
+      has : Has page now
+      has = inr (ap (λ (a : ℕ). code_in (earlier_at page a)) next ∙ read)
+
+      at : (s : ℕ) (b : Bool) → (s == slot) ≡ b → Has page (slice_index_or (slice_set slots slot now) s empty_slot)
+      at s true e = rw (eqb-true s slot e, get_or-set_same slots slot now empty_slot (omega (arith, below, so.many))) has
+      at s false e = rw (get_or-set_other slots slot s now empty_slot (eqb-false s slot e)) (so.each s)

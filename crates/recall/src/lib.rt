@@ -12,6 +12,20 @@ use page::{LookError, RECORD, Record};
 // How many codes are remembered at most.
 pub const SLOTS: usize = 4096;
 
+// What a slot has: a record by its offset and one more, where 0 is none, and the halves of its code. No
+// Option: `after_of` and `earlier_at` speak of that number, and so do the laws of them.
+#[derive(Clone, Copy)]
+pub struct Slot {
+    pub after: u64,
+    pub code: Halves,
+}
+
+// A slot that has no record.
+pub const EMPTY: Slot = Slot {
+    after: 0,
+    code: Halves { high: 0, low: 0 },
+};
+
 // The twenty bytes of the code of a record at an offset, and none where the page has not the record's bytes.
 fn text_at(page: &[u8], offset: usize) -> &[u8]
     ensures { result.now ≡ text_at page.now offset }
@@ -54,39 +68,17 @@ fn slot_of(text: &[u8]) -> usize
 }
 
 // What is found at an offset of a page by one who remembers codes.
-pub fn look<'a>(
-    page: &[u8],
-    offset: usize,
-    records: &'a [u64; SLOTS],
-    high: &'a [u64; SLOTS],
-    low: &'a [u64; SLOTS],
-) -> Result<Option<Record>, LookError>
-    ensures { result ≡ recalled records.now high.now low.now page.now offset }
+pub fn look(page: &[u8], offset: usize, slots: &[Slot; SLOTS]) -> Result<Option<Record>, LookError>
+    ensures { result ≡ recalled slots.now page.now offset }
 {
-    let slot = slot_of(text_at(page, offset));
-    let earlier = earlier_at(page, records[slot]);
-    let known = Halves {
-        high: high[slot],
-        low: low[slot],
-    };
-    page::look_by(page, offset, earlier, known)
+    let slot = slots[slot_of(text_at(page, offset))];
+    page::look_by(page, offset, earlier_at(page, slot.after), slot.code)
 }
 
 // Remembers the code of a record at an offset, with its halves.
-pub fn note(
-    page: &[u8],
-    offset: usize,
-    code: Halves,
-    records: &mut [u64; SLOTS],
-    high: &mut [u64; SLOTS],
-    low: &mut [u64; SLOTS],
-)
-    ensures records_after { records.new ≡ remembered records.old page.now offset (after_of offset) }
-    ensures high_after { high.new ≡ remembered high.old page.now offset code.high }
-    ensures low_after { low.new ≡ remembered low.old page.now offset code.low }
+pub fn note(page: &[u8], offset: usize, code: Halves, slots: &mut [Slot; SLOTS])
+    ensures { slots.new ≡ remembered slots.old page.now offset code }
 {
-    let slot = slot_of(text_at(page, offset));
-    records[slot] = std::num::wrapping_add_u64(offset as u64, 1);
-    high[slot] = code.high;
-    low[slot] = code.low;
+    let after = (offset as u64).wrapping_add(1);
+    slots[slot_of(text_at(page, offset))] = Slot { after, code };
 }

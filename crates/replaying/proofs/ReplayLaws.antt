@@ -21,7 +21,8 @@ use Rattle.page.specs.declared.LookError.TheVariants as look
 use Rattle.page.specs.declared.Record.{Record}
 use Rattle.page.specs.Page.{Found, record_length, stretch_at, look_at, refusal_of}
 use Rattle.page.proofs.PageLaws.{look_recorded, look_within, recorded_right}
-use Rattle.recall.specs.Recall.{recalled, remembered, after_of}
+use Rattle.recall.specs.declared.Slot.{Slot}
+use Rattle.recall.specs.Recall.{recalled, remembered}
 use Rattle.recall.specs.RecallLaws.{Recalls, empty_slots, recalls_begin, recalled_look, recalls_note}
 use Rattle.replaying.specs.declared.Counts.{Counts}
 use Rattle.replaying.specs.Replay.{message_in, as_found, messages_from, messages_of, stop_of, times_refused, counts_of, replayed_by, replayed}
@@ -207,18 +208,18 @@ adds_end counts whole so =
 
 -- the page's length is a machine's number; what was found at the offset; the codes that were read are remembered as they were; the slots find
 -- each code's place in the account; the account and the counts so far, with the messages that are left, give those of the whole page
-pub record Replaying (page slots read highs lows : List ℕ) (account : Account) (counts : Counts) (offset : ℕ) (here : Found) : Type 0 where
+pub record Replaying (page slots : List ℕ) (read : List Slot) (account : Account) (counts : Counts) (offset : ℕ) (here : Found) : Type 0 where
   pub few : length page < 2 ^ 64
   pub found : here ≡ look_at page offset
   pub sound : Sound account
-  pub recalls : Recalls page read highs lows
+  pub recalls : Recalls page read
   pub indexed : Indexed slots account
   pub left : after account (left_from page offset) ≡ after empty (messages_of page)
   pub counted : Adds counts (counts_of (sent account (left_from page offset))) (counts_of (sent empty (messages_of page)))
   pub passed : offset + record_length * length (left_from page offset) ≡ stop_of page
 
 pub replaying_begin : (page : List ℕ) {slots : List ℕ} {here : Found} → length page < 2 ^ 64 → length slots ≡ slot_count → here ≡ look_at page 0
-    → Replaying page slots empty_slots empty_slots empty_slots empty (counts_of []) 0 here
+    → Replaying page slots empty_slots empty (counts_of []) 0 here
 replaying_begin page h k e =
     let few : length (sent empty (messages_of page)) < 2 ^ 64 =
     omega (arith, h, sent_length (messages_of page) empty, messages_most (length page / record_length) page 0) in
@@ -233,8 +234,8 @@ replaying_begin page h k e =
       passed = rw (left_all page) (omega arith);
     }
 
-module _ {page slots read highs lows : List ℕ} {account : Account} {counts : Counts} {offset : ℕ} {here : Found}
-    (so : Replaying page slots read highs lows account counts offset here) where
+module _ {page slots : List ℕ} {read : List Slot} {account : Account} {counts : Counts} {offset : ℕ} {here : Found}
+    (so : Replaying page slots read account counts offset here) where
   -- a record further
   module _ {r : Record} (e : here ≡ Ok (Some r)) where
     at_record : look_at page offset ≡ Ok (Some r)
@@ -252,19 +253,18 @@ module _ {page slots read highs lows : List ℕ} {account : Account} {counts : C
         ∙ ap (λ (i : ℕ). change_at r.kind account.active account.last account.total i r.code r.number)
         (p ∙ looked_place so.indexed r.code)
 
-    pub replaying_step : (change : Change) {later read' highs' lows' : List ℕ} {next : Account} {there : Found}
-        → read' ≡ remembered read page offset (after_of offset) → highs' ≡ remembered highs page offset r.code.high
-        → lows' ≡ remembered lows page offset r.code.low → change ≡ change_by r.kind account r.code r.number
+    pub replaying_step : (change : Change) {later : List ℕ} {read' : List Slot} {next : Account} {there : Found}
+        → read' ≡ remembered read page offset r.code → change ≡ change_by r.kind account r.code r.number
         → later ≡ noted_step slots account.high account.low account.active change.step
-        → next ≡ (makes change account).account → there ≡ recalled read' highs' lows' page (offset + record_length)
-        → Replaying page later read' highs' lows' next (tallied counts change.answer) (offset + record_length) there
-    replaying_step change {later} {read'} {highs'} {lows'} {next} {there} er eh el c l n f =
+        → next ≡ (makes change account).account → there ≡ recalled read' page (offset + record_length)
+        → Replaying page later read' next (tallied counts change.answer) (offset + record_length) there
+    replaying_step change {later} {read'} {next} {there} er c l n f =
         let m : Message = message_in (stretch_at page offset) in
         let rest : List Message = left_from page (offset + record_length) in
         let sends : send account m ≡ makes change account =
         record_sent page offset at_record so.sound ∙ ap (λ (d : Change). makes d account) (sym c) in
         let left = left_more page offset at_record in
-        let remembers : Recalls page read' highs' lows' = rw (er, eh, el) (recalls_note so.recalls offset at_record so.few) in
+        let remembers : Recalls page read' = rw er (recalls_note so.recalls offset at_record so.few) in
         let same : next ≡ (send account m).account = n ∙ ap (λ (d : Done). d.account) (sym sends) in
         let all : sent account (left_from page offset) ≡ sent_by m (says change.answer) ∷ sent next rest =
         ap (sent account) left

@@ -99,15 +99,13 @@ pub fn replay(page: &[u8]) -> Replayed
 {
     let mut account = entitlements::empty();
     let mut slots = [0u64; index::SLOTS];
-    let mut read = [0u64; recall::SLOTS];
-    let mut highs = [0u64; recall::SLOTS];
-    let mut lows = [0u64; recall::SLOTS];
+    let mut read = [recall::EMPTY; recall::SLOTS];
     let mut counts = none();
     let mut at = 0;
     let mut found = page::look(page, at);
     while let Ok(Some(record)) = found {
         let code = record.code;
-        recall::note(page, at, code, &mut read, &mut highs, &mut lows);
+        recall::note(page, at, code, &mut read);
         let place = index::find(&account, &slots, code);
         let change = change::change_at(record.kind, &account, place, code, record.number);
         let step = change.step;
@@ -115,7 +113,7 @@ pub fn replay(page: &[u8]) -> Replayed
         note_step(&account, &mut slots, step);
         change::put_step(&mut account, step);
         at += page::RECORD;
-        found = recall::look(page, at, &read, &highs, &lows);
+        found = recall::look(page, at, &read);
     }
     Replayed {
         refusal: page::found_number(found),

@@ -57,7 +57,7 @@ loop-found-preserved c =
     let at_record = found_as c.in-Ok-Some.is record_is in
     let change = replaying_change here.invariant at_record c.change_at-change.result c.find-place.ensures c.change_at-change.ensures in
     rw c.tally-counts.ensures
-    (replaying_step here.invariant at_record c.change_at-change.result c.note.ensures.records_after c.note.ensures.high_after c.note.ensures.low_after change c.note_step.ensures c.put_step.ensures c.look-found-in-Ok-Some.ensures)
+    (replaying_step here.invariant at_record c.change_at-change.result c.note.ensures change c.note_step.ensures c.put_step.ensures c.look-found-in-Ok-Some.ensures)
 
 pub returns : goal.returns
 returns c =
