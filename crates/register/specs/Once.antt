@@ -4,7 +4,7 @@ use Rattle.std.proofs.Common.{sym, ap, ◌∙◌}
 use Rattle.room.specs.Room.{Put}
 use Rattle.room.specs.RoomLaws.{put_only}
 use Rattle.lines.specs.Automaton.{Coming}
-use Rattle.register.specs.declared.Line.{Line}
+use Rattle.lines.specs.declared.Line.{Line}
 use Rattle.register.specs.declared.Listed.{Listed}
 use Rattle.register.specs.Said.{coming}
 

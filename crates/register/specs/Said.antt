@@ -5,7 +5,7 @@ use Rattle.replies.specs.Replies.{Outcome}
 use Rattle.unit.specs.Unit.{kind_of, coding}
 use Rattle.lines.specs.Lines.{Coding, Reply, coded, refused, line_said}
 use Rattle.lines.specs.Automaton.{Coming}
-use Rattle.register.specs.declared.Line.{Line}
+use Rattle.lines.specs.declared.Line.{Line}
 
 -- "then the code or `refused`, number and place"
 abbrev pub reply_of : Outcome → Reply

@@ -14,12 +14,7 @@ ghost use Rattle.lines.specs.Answers.{always};
 ghost use Rattle.lines.specs.Automaton.{after, ended, last};
 ghost use Rattle.register.specs.Said.{said, coming};
 
-// The line that comes in: its number, and how many of its bytes stand in the room.
-#[derive(Drop)]
-pub struct Line {
-    pub number: u64,
-    pub len: usize,
-}
+pub use lines::Line;
 
 // What a read leaves: the line that comes in then, and how many bytes the replies have.
 #[derive(Drop)]
@@ -37,10 +32,8 @@ pub fn reply_all(line: Line, bytes: &[u8], room: &mut [u8], out: &mut [u8]) -> L
     let mut space = [0u32; reply::MOST];
     let coordinates: &mut [u32] = &mut space;
     let mut listed = Listed { line, put: 0 };
-    let mut i = 0;
-    while i < bytes.len() {
-        listed = take_byte(listed.line, bytes[i], room, coordinates, out, listed.put);
-        i += 1;
+    for byte in bytes {
+        listed = take_byte(listed.line, *byte, room, coordinates, out, listed.put);
     }
     listed
 }
@@ -59,7 +52,7 @@ fn take_byte(
     ensures put { Put out.old at (ended (always said) (coming line room.old) (byte ∷ [])) result.put out.new }
 {
     if byte == b'\n' {
-        let put = reply::reply_held(line.number, room, line.len, coordinates, out, at);
+        let put = reply::reply_held(line, room, coordinates, out, at);
         let number = std::num::wrapping_add_u64(line.number, 1);
         return Listed {
             line: Line { number, len: 0 },
@@ -85,5 +78,5 @@ pub fn reply_last(line: Line, room: &[u8], out: &mut [u8]) -> usize
         return 0;
     }
     let mut coordinates = [0u32; reply::MOST];
-    reply::reply_held(line.number, room, line.len, &mut coordinates, out, 0)
+    reply::reply_held(line, room, &mut coordinates, out, 0)
 }

@@ -15,29 +15,29 @@ pub returns-in_default : goal.returns-in_default
 returns-in_default c =
     let line = c.args.line.now in
     let short = c.if-line-gt-LONGEST.false in
-    let bad = sym c.unit_of-unit.ensures.value ∙ c.in_default.is in
+    let bad = sym c.unit_of-stated.ensures.value ∙ c.in_default.is in
     rw (said_bad code_said line short bad) c.put_refused-in_default.ensures
 
 pub slice_bounds-reply_unit-end : goal.slice_bounds-reply_unit-end
 slice_bounds-reply_unit-end c =
     let asked = c.args in
     let short = c.if-line-gt-LONGEST.false in
-    let states = sym c.unit_of-unit.ensures.value ∙ c.in-Stated.is in
-    let held = unit_held asked.line.now states asked.coordinates.now c.unit_of-unit.new.room short c.requires c.unit_of-unit.ensures.room_after in
+    let states = sym c.unit_of-stated.ensures.value ∙ c.in-Some.is in
+    let held = unit_held asked.line.now states asked.coordinates.now c.unit_of-stated.new.room short c.requires c.unit_of-stated.ensures.room_after in
     held.0
 
 pub slice_bounds-reply_unit-end-2 : goal.slice_bounds-reply_unit-end-2
 slice_bounds-reply_unit-end-2 c =
     let asked = c.args in
     let short = c.if-line-gt-LONGEST.false in
-    let states = sym c.unit_of-unit.ensures.value ∙ c.in-Stated.is in
-    let held = unit_held asked.line.now states asked.coordinates.now c.unit_of-unit.new.room short c.requires c.unit_of-unit.ensures.room_after in
-    sym (length-take-le c.in-Stated.count c.unit_of-unit.new.room held.0)
+    let states = sym c.unit_of-stated.ensures.value ∙ c.in-Some.is in
+    let held = unit_held asked.line.now states asked.coordinates.now c.unit_of-stated.new.room short c.requires c.unit_of-stated.ensures.room_after in
+    sym (length-take-le c.in-Some.unit.count c.unit_of-stated.new.room held.0)
 
 pub returns : goal.returns
 returns c =
     let asked = c.args in
     let short = c.if-line-gt-LONGEST.false in
-    let states = sym c.unit_of-unit.ensures.value ∙ c.in-Stated.is in
-    let held = unit_held asked.line.now states asked.coordinates.now c.unit_of-unit.new.room short c.requires c.unit_of-unit.ensures.room_after in
+    let states = sym c.unit_of-stated.ensures.value ∙ c.in-Some.is in
+    let held = unit_held asked.line.now states asked.coordinates.now c.unit_of-stated.new.room short c.requires c.unit_of-stated.ensures.room_after in
     rw (said_unit code_said asked.line.now short states, ← held.1) c.reply_unit.ensures
