@@ -12,7 +12,8 @@ ghost use Rattle.unit.specs.Frame.{leaves, Searched};
 use ground::{Cell, Rectangle};
 use unit::{Kind, Refusal};
 
-// The chosen cell over extents and a list of edges: levels 9 to 27 in turn.
+// The chosen cell over extents and a list of edges: levels 9 to 27 in turn. The two stay parameters here and
+// in search.rt: a struct would lend the one and copy the other, and each function would take it apart.
 fn chosen(edges: &[u32], r: Rectangle) -> Option<Cell>
     requires { Over r (edges_in edges.now) }
     ensures { result ≡ choose r (edges_in edges.now) }

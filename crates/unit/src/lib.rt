@@ -14,7 +14,8 @@ pub enum Kind {
     Other,
 }
 
-// The kind that a letter of the listing names: `B` a building, any other byte another kind.
+// The kind that a letter of the listing names: `B` a building, any other byte another kind. No `From<u8>`
+// beside it: this public function stays, and an impl would only say it again.
 #[tactic(auto, unfolding(crate::specs::Unit::kind_of))]
 pub fn kind_of(letter: u8) -> Kind
     ensures { result ≡ kind_of letter }
