@@ -12,7 +12,8 @@ pub const LARGEST: u64 = 1099511627775;
 
 // An account: for each place the two halves of a code and whether it is active (0 is free, any other
 // number active), the last number processed, and the total, which is how many are active. It goes into
-// each message and comes back.
+// each message and comes back. The three arrays stay apart, and no array of places: an account of arrays is
+// among the forms that docs/STATEMENTS.md lists, and C lends the three (`lending`).
 #[derive(Clone, Copy)]
 pub struct Account {
     pub high: [u64; PLACES],
