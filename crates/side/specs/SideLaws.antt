@@ -1,19 +1,10 @@
--- The laws of sides: numbers with a sign, as the code has them, with what stands above 0 and what below; and the line turned round.
--- Assumes nothing.
+-- The laws of sides: products of two differences, with what stands above 0 and what below; and the line turned round. Assumes nothing.
 use Rattle.std.specs.Prelude.{ℕ, ◌+◌, ◌*◌, ◌≤◌, ◌<◌, ◌≡◌, refl, Bool, true, false, cond, not, leb, ltb}
 use Rattle.std.proofs.Common.{mul-le-mul, arith, ap, sym, ◌∙◌, leb-true, leb-false, ltb-true, ltb-false}
 use Rattle.std.specs.Bool.{beq}
 use Rattle.ground.specs.declared.Point.{Point}
 use Rattle.angles.specs.Angles.{distance}
-use Rattle.side.specs.declared.Signed.{Signed}
 use Rattle.side.specs.Side.{left_sum, right_sum, left, left_or_on}
-
--- What a number has above 0, and what below
-abbrev pub plus : Signed → ℕ
-plus x = cond x.below 0 x.size
-
-abbrev pub minus : Signed → ℕ
-minus x = cond x.below x.size 0
 
 -- Two tests that hold together are the same
 pub ltb_same : (a b c d : ℕ) → (a < b → c < d) → (c < d → a < b) → ltb a b ≡ ltb c d

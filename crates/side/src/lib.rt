@@ -1,50 +1,30 @@
-// The side of a line, told by the sign of a difference of two products. Nobody else multiplies.
+// The side of a line, told by two sums of products. Nobody else multiplies.
 #![tactic(auto)]
 
-ghost use Rattle.std.specs.Prelude.{◌≡◌, ◌+◌, ◌*◌, ltb};
-ghost use Rattle.side.specs.Side.{left as Side·left};
-ghost use Rattle.side.specs.SideLaws.{plus, minus};
+ghost use Rattle.std.specs.Prelude.{◌≡◌, ◌*◌, ◌<◌, ◌^◌};
+ghost use Rattle.side.specs.Side.{left as Side·left, left_sum};
 
-use ground::Point;
+use ground::{Lat, Lon, Point};
 
-// A number with its sign: `size` above 0, or below it.
-#[derive(Drop)]
-pub struct Signed {
-    pub below: bool,
-    pub size: u64,
-}
-
-// (b - a) times (d - c), for all numbers: no product of two differences passes 64 bits.
-fn product(a: u32, b: u32, c: u32, d: u32) -> Signed
-    ensures { a * d + b * c + plus result ≡ a * c + b * d + minus result }
+// A longitude times a latitude, which 64 bits hold.
+fn product(lon: Lon, lat: Lat) -> u128
+    ensures value { result ≡ lon.0 * lat.0 }
+    ensures small { result < 2 ^ 64 }
 {
-    Signed {
-        below: (a < b) != (c < d),
-        size: angles::apart(a, b) as u64 * angles::apart(c, d) as u64,
-    }
+    lon.0 as u128 * lat.0 as u128
 }
 
-// Whether x is greater than y.
-fn greater(x: Signed, y: Signed) -> bool
-    ensures { result ≡ ltb (plus y + minus x) (plus x + minus y) }
+// What stands for left of the line from a to b, for all points: three products pass 64 bits, and fit 128.
+fn left_sum(a: Point, b: Point, p: Point) -> u128
+    ensures { result ≡ left_sum a b p }
 {
-    let over = x.size;
-    let under = y.size;
-    if x.below {
-        return y.below && over < under;
-    }
-    if y.below {
-        return 0 < over || 0 < under;
-    }
-    under < over
+    product(a.lon, b.lat) + product(b.lon, p.lat) + product(p.lon, a.lat)
 }
 
-// Whether a point lies strictly left of the line from a to b, for all points.
+// Whether a point lies strictly left of the line from a to b, for all points. What stands for right of
+// the line is what stands for left of it turned round.
 pub fn left(a: Point, b: Point, p: Point) -> bool
     ensures { result ≡ Side·left a b p }
 {
-    greater(
-        product(a.lon.0, b.lon.0, a.lat.0, p.lat.0),
-        product(a.lat.0, b.lat.0, a.lon.0, p.lon.0),
-    )
+    left_sum(b, a, p) < left_sum(a, b, p)
 }

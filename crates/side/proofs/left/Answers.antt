@@ -1,13 +1,12 @@
--- `side::left` meets its contract: the two sums differ as the two products do. Assumes nothing.
-use mathlib.Core.Path.{◌∙◌}
-use Rattle.side.specs.SideLaws.{plus, minus, side_signed}
+-- `side::left` meets its contract: what stands for right is what stands for left of the line turned round. Assumes nothing.
+use Rattle.std.proofs.Common.{arith}
+use Rattle.side.specs.Side.{left_sum, right_sum, left}
+use Rattle.side.specs.SideLaws.{ltb_same}
 use Rattle.side.proofs.left.Goals as goal
 
 pub returns : goal.returns
+unfolding left
 returns c =
     let a = c.args in
-    let along = c.product in
-    let across = c.product-2 in
-    c.greater.ensures
-    ∙ side_signed a.a a.b a.p (plus along.result) (minus along.result) (plus across.result) (minus across.result)
-    along.ensures across.ensures
+    rw (c.left_sum.ensures, c.left_sum-2.ensures)
+    (ltb_same (left_sum a.b a.a a.p) (left_sum a.a a.b a.p) (right_sum a.a a.b a.p) (left_sum a.a a.b a.p) (λ h. omega arith) (λ h. omega arith))
