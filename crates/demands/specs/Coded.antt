@@ -1,6 +1,6 @@
 -- The mission's demand 2 in one statement: an accepted unit gets the code of its chosen cell, and 7 is said where no cell is inside, and
 -- only there. Assumes nothing.
-use Rattle.std.specs.Prelude.{ℕ, ◌≡◌, Bool, List, T, length, drop}
+use Rattle.std.specs.Prelude.{ℕ, Option, Some, None, ◌≡◌, Bool, List, T, length, drop}
 use Rattle.std.proofs.Common.{arith, sym, ◌∙◌}
 use Rattle.std.proofs.Math.Path.{refl, ap, ap₂}
 use Rattle.std.proofs.Math.Bool.{true, false}
@@ -19,8 +19,6 @@ use Rattle.code.specs.WritingLaws.{code_twenty}
 use Rattle.corners.specs.Corners.{corners_of}
 use Rattle.boundary.specs.Boundary.{inside}
 use Rattle.boundary.specs.Listed.{boundary_of}
-use Rattle.chosen.specs.declared.Choice.{Choice}
-use Rattle.chosen.specs.declared.Choice.TheVariants.{At, Nowhere}
 use Rattle.chosen.specs.Chosen.{Chosen, Over}
 use Rattle.chosen.proofs.ChosenLaws.{choose_chosen, choose_none, none_choose}
 use Rattle.unit.specs.declared.Kind.{Kind}
@@ -53,12 +51,12 @@ pub record AsDemanded (room numbers : List ℕ) (kind : Kind) (number : ℕ) : T
   pub only : Checked room numbers kind number → NoneInside numbers → (coding room numbers kind number).said ≡ refused 7 0
 
 -- Check 7 says 7 where there is no cell alone
-seven_nowhere : (choice : Choice) → (run (cell_check choice)).number ≡ 7 → choice ≡ Nowhere
-seven_nowhere (At c) e = let none : ⊥ = omega arith in absurd none
-seven_nowhere Nowhere e = refl
+seven_nowhere : (choice : Option Cell) → (run (cell_check choice)).number ≡ 7 → choice ≡ None
+seven_nowhere (Some c) e = let none : ⊥ = omega arith in absurd none
+seven_nowhere None e = refl
 
 module _ (room numbers : List ℕ) (kind : Kind) (number : ℕ) where
-  abbrev choice : Choice
+  abbrev choice : Option Cell
   choice = chosen_cell (corners_of numbers)
 
   -- Bytes 0 to 19 of the room, where coding accepts
@@ -69,7 +67,7 @@ module _ (room numbers : List ℕ) (kind : Kind) (number : ℕ) where
       let c = cover.coded room numbers kind number e in
       let r : Rectangle = extremes_of (corners_of numbers) in
       let f : Fields = fields_of r number c.cell in
-      ap₂ (λ (said : Said) (choice : Choice). take 20 (outcome said (code_at r number choice) room).room) e c.chosen
+      ap₂ (λ (said : Said) (choice : Option Cell). take 20 (outcome said (code_at r number choice) room).room) e c.chosen
       ∙ take_at (code_of f) (drop 20 room) 20 (code_twenty f)
       ∙ ap (code_at r number) (sym c.chosen)
 
@@ -112,7 +110,7 @@ module _ (room numbers : List ℕ) (kind : Kind) (number : ℕ) where
   unfolding coding
   only pass none =
       first_accepts (length room) numbers kind number pass
-      ∙ ap (λ (c : Choice). run (cell_check c)) (none_choose (over pass) none)
+      ∙ ap (λ (c : Option Cell). run (cell_check c)) (none_choose (over pass) none)
 
   -- Demand 2 holds of coding
   pub as_demanded : AsDemanded room numbers kind number

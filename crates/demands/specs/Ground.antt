@@ -1,13 +1,13 @@
 -- The mission's demand 3 between the two roads: what each road leaves, by its own promise, is the same for lists of one ground. Each list
 -- has a room of its own. Assumes nothing.
-use Rattle.std.specs.Prelude.{ℕ, ◌≡◌, refl, List, take}
+use Rattle.std.specs.Prelude.{ℕ, Result, Ok, Err, ◌≡◌, refl, List, take}
 use Rattle.std.proofs.Common.{arith, ap, sym, ◌∙◌}
 use Rattle.replies.specs.Replies.{accepted, run, Outcome}
 use Rattle.corners.specs.Corners.{corners_of}
 use Rattle.boundary.specs.Changes.{SameGround}
 use Rattle.unit.specs.declared.Kind.{Kind}
-use Rattle.unit.specs.declared.Coded.{Coded}
-use Rattle.unit.specs.declared.Coded.TheVariants as coded
+use Rattle.unit.specs.declared.Refusal.{Refusal}
+use Rattle.unit.specs.declared.Refusal.TheVariants as refusal
 use Rattle.unit.specs.Extents.{extremes_of}
 use Rattle.unit.specs.Unit.{code_at, chosen_cell, corner_checks, coding}
 use Rattle.unit.specs.Frame.{says, leaves}
@@ -15,20 +15,20 @@ use Rattle.unit.specs.SameGround.{Counted, number_same, code_same}
 use Rattle.demands.specs.Coded.{code_told}
 
 -- The same code or the same refusal number: the numbers are the same, and where they are 0 so are bytes 0 to 19 of the two rooms
-abbrev pub SameAnswer : Coded → List ℕ → Coded → List ℕ → Type 0
+abbrev pub SameAnswer : Result (Unit {0}) Refusal → List ℕ → Result (Unit {0}) Refusal → List ℕ → Type 0
 SameAnswer quick one plain other = ((says quick).number ≡ (says plain).number) × ((says quick).number ≡ 0 → take 20 one ≡ take 20 other)
 
 -- The number 0 is acceptance's alone
-zero_accepts : (a : Coded) → (says a).number ≡ 0 → says a ≡ accepted
-zero_accepts coded.Accepted e = refl
-zero_accepts coded.Output e = absurd (omega arith)
-zero_accepts coded.Pairs e = absurd (omega arith)
-zero_accepts coded.Corners e = absurd (omega arith)
-zero_accepts (coded.Range corner) e = absurd (omega arith)
-zero_accepts coded.Extent e = absurd (omega arith)
-zero_accepts (coded.Crossed corner) e = absurd (omega arith)
-zero_accepts coded.Number e = absurd (omega arith)
-zero_accepts coded.NoCell e = absurd (omega arith)
+zero_accepts : (a : Result (Unit {0}) Refusal) → (says a).number ≡ 0 → says a ≡ accepted
+zero_accepts (Ok _) e = refl
+zero_accepts (Err refusal.Output) e = absurd (omega arith)
+zero_accepts (Err refusal.Pairs) e = absurd (omega arith)
+zero_accepts (Err refusal.Corners) e = absurd (omega arith)
+zero_accepts (Err (refusal.Range corner)) e = absurd (omega arith)
+zero_accepts (Err refusal.Extent) e = absurd (omega arith)
+zero_accepts (Err (refusal.Crossed corner)) e = absurd (omega arith)
+zero_accepts (Err refusal.Number) e = absurd (omega arith)
+zero_accepts (Err refusal.NoCell) e = absurd (omega arith)
 
 module _ (kind : Kind) (number : ℕ) where
   -- The number of coding, where checks 1 to 3 pass, is told by the corners
@@ -38,7 +38,7 @@ module _ (kind : Kind) (number : ℕ) where
   number_told room numbers h = rw (h.long, h.even, h.corners)
 
   -- Demand 3, from the promises of the two roads
-  pub same_answer_lem : (one numbers other others one_later other_later : List ℕ) (quick plain : Coded)
+  pub same_answer_lem : (one numbers other others one_later other_later : List ℕ) (quick plain : Result (Unit {0}) Refusal)
       → leaves quick one_later ≡ coding one numbers kind number
       → leaves plain other_later ≡ coding other others kind number
       → Counted one numbers
@@ -54,7 +54,7 @@ module _ (kind : Kind) (number : ℕ) where
             ∙ sym (written other others other_later plain pledge (sym said ∙ zero)),
       )
     where
-      written : (room numbers later : List ℕ) (a : Coded) → leaves a later ≡ coding room numbers kind number → (says a).number ≡ 0
+      written : (room numbers later : List ℕ) (a : Result (Unit {0}) Refusal) → leaves a later ≡ coding room numbers kind number → (says a).number ≡ 0
           → take 20 later ≡ code_at (extremes_of (corners_of numbers)) number (chosen_cell (corners_of numbers))
       written room numbers later a promise zero =
           ap (λ (o : Outcome). take 20 o.room) promise

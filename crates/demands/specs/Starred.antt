@@ -1,6 +1,6 @@
 -- The starred cases of document 01 ("Tried on both sides", 1 to 10; 5 as in document 02, request 2): one table, and one statement about
 -- the definitions that the checker computes. Assumes nothing.
-use Rattle.std.specs.Prelude.{ℕ, ◌+◌, ◌*◌, ◌/◌, ◌%◌, Bool, true, false, ◌&&◌, List, [], ◌∷◌, map, T, eqb, replicate}
+use Rattle.std.specs.Prelude.{ℕ, Option, Some, None, ◌+◌, ◌*◌, ◌/◌, ◌%◌, Bool, true, false, ◌&&◌, List, [], ◌∷◌, map, T, eqb, replicate}
 use Prim.Native.String.{String}
 use Rattle.replies.specs.Replies.{Said}
 use Rattle.facts.specs.Texts.{bytes, same_text}
@@ -21,8 +21,6 @@ use Rattle.spelling.specs.Spelling.{spelled_both, text_checks, numbers_in}
 use Rattle.code.specs.Code.{rest_of, code_of, rectangle_of, fields_in, location_checks, span_checks, Told, reading_numbers, reading}
 use Rattle.unit.specs.declared.Kind.{Kind}
 use Rattle.unit.specs.declared.Kind.TheVariants.{Building, Other}
-use Rattle.chosen.specs.declared.Choice.{Choice}
-use Rattle.chosen.specs.declared.Choice.TheVariants.{At, Nowhere}
 use Rattle.corners.specs.Corners.{corners_of}
 use Rattle.unit.specs.Extents.{extremes_of}
 use Rattle.chosen.specs.Chosen.{choose}
@@ -95,18 +93,18 @@ abbrev pub same_sides : Rectangle → Rectangle → Bool
 same_sides r s = lies (south_west r) s.south.0 s.west.0 && lies (at r.north r.east) s.north.0 s.east.0
 
 -- A chosen cell has a level and its south-west corner this latitude and longitude, and the unit's extents are its sides
-abbrev pub is_unit : Choice → Rectangle → ℕ → ℕ → ℕ → Bool
-is_unit Nowhere r level lat lon = false
-is_unit (At c) r level lat lon = eqb c.level level && lies (corner_of c) lat lon && same_sides (sides_of c) r
+abbrev pub is_unit : Option Cell → Rectangle → ℕ → ℕ → ℕ → Bool
+is_unit None r level lat lon = false
+is_unit (Some c) r level lat lon = eqb c.level level && lies (corner_of c) lat lon && same_sides (sides_of c) r
 
 -- A cell's centre, halfway between its sides as cut
 abbrev pub centre : Cell → Point
 centre c = centre_of (sides_of c)
 
 -- A chosen cell has a level, and its centre this latitude and longitude
-abbrev pub centred : Choice → ℕ → ℕ → ℕ → Bool
-centred Nowhere level lat lon = false
-centred (At c) level lat lon = eqb c.level level && lies (centre c) lat lon
+abbrev pub centred : Option Cell → ℕ → ℕ → ℕ → Bool
+centred None level lat lon = false
+centred (Some c) level lat lon = eqb c.level level && lies (centre c) lat lon
 
 -- Twenty bytes of room
 abbrev pub room : List ℕ

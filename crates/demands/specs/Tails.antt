@@ -1,6 +1,6 @@
 -- Long tails get a code (document 02, request 2): a unit that the checks before a cell is looked for accept is coded where a cell is inside,
 -- however far it reaches from there; what 8 was for never holds of such a cell, and 8 never occurs. Assumes nothing.
-use Rattle.std.specs.Prelude.{ℕ, ◌≡◌, List, T, length}
+use Rattle.std.specs.Prelude.{ℕ, Option, Some, None, ◌≡◌, List, T, length}
 use Rattle.std.proofs.Common.{arith, ◌∙◌}
 use Rattle.std.proofs.Math.Path.{refl}
 use Rattle.facts.specs.Tests.{true_of}
@@ -12,8 +12,6 @@ use Rattle.code.specs.WritingLaws.{Good}
 use Rattle.corners.specs.Corners.{corners_of}
 use Rattle.boundary.specs.Boundary.{inside}
 use Rattle.boundary.specs.Listed.{boundary_of}
-use Rattle.chosen.specs.declared.Choice.{Choice}
-use Rattle.chosen.specs.declared.Choice.TheVariants.{At, Nowhere}
 use Rattle.chosen.proofs.ChosenLaws.{choose_none}
 use Rattle.unit.specs.declared.Kind.{Kind}
 use Rattle.unit.specs.Extents.{extremes_of}
@@ -37,9 +35,9 @@ module _ (room numbers : List ℕ) (kind : Kind) (number : ℕ) where
   unfolding coding
   coded pass c is t = first_accepts (length room) numbers kind number pass ∙ at (chosen_cell (corners_of numbers)) refl
     where
-      at : (choice : Choice) → chosen_cell (corners_of numbers) ≡ choice → run (cell_check choice) ≡ accepted
-      at (At d) e = refl
-      at Nowhere e = absurd (choose_none (over room numbers kind number pass) e c is t)
+      at : (choice : Option Cell) → chosen_cell (corners_of numbers) ≡ choice → run (cell_check choice) ≡ accepted
+      at (Some d) e = refl
+      at None e = absurd (choose_none (over room numbers kind number pass) e c is t)
 
   fits : Checked room numbers kind number → (c : Cell) → IsCell c → T (inside (boundary_of numbers) c)
       → Fits (fields_of (extremes_of (corners_of numbers)) number c)

@@ -11,13 +11,13 @@ ghost use Rattle.unit.specs.Frame.{leaves};
 ghost use Rattle.unit.specs.SameGround.{Counted};
 ghost use Rattle.demands.specs.Ground.{SameAnswer};
 
-use unit::{Coded, Kind};
+use unit::{Kind, Refusal};
 
 // What the two roads answer.
 #[derive(Drop)]
 pub struct Both {
-    pub quick: Coded,
-    pub plain: Coded,
+    pub quick: Result<(), Refusal>,
+    pub plain: Result<(), Refusal>,
 }
 
 // Demand 3: codes one list of corners by the quick road and another by the plain road, for all inputs,
