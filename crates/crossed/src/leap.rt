@@ -31,6 +31,7 @@ fn lons_overlap(numbers: &[u32], a: Point, b: Point, j: usize) -> bool
 }
 
 // The first of the edges from one place to another whose extents are not apart from those of an edge.
+#[tactic(auto, using(crate::specs::Leaps::skipped_again), unfolding(pair::specs::Pair::overlapping))]
 fn scan(numbers: &[u32], a: Point, b: Point, from: usize, to: usize) -> Option<usize>
     requires { to ≤ length numbers.now / 2 }
     ensures { Leapt numbers.now (edge a b) from to result }
@@ -44,6 +45,7 @@ fn scan(numbers: &[u32], a: Point, b: Point, from: usize, to: usize) -> Option<u
 }
 
 // The same where both places lie in one row, of which all are passed over if its extents are apart.
+#[tactic(auto, using(crate::specs::Leaps::skipped_row))]
 fn scan_row(
     numbers: &[u32],
     extents: &[u32],

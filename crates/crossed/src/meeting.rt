@@ -48,6 +48,7 @@ fn has_length(numbers: &[u32], i: usize) -> bool
 }
 
 // The first place, from one on, where an edge starts that has a length.
+#[tactic(auto, using(crate::specs::MeetingLaws::start_here, crate::specs::MeetingLaws::start_later, crate::specs::MeetingLaws::start_none))]
 fn start_from(numbers: &[u32], from: usize) -> Option<usize>
     ensures { (none : ℕ) → unwrap_or result none ≡ start_from numbers.now from none }
 {
@@ -70,6 +71,7 @@ fn following(numbers: &[u32], i: usize) -> usize
 }
 
 // Whether two edges share a point other than the corner at which one follows the other.
+#[tactic(auto, unfolding(crate::specs::Crossed::meet))]
 fn meet(numbers: &[u32], i: usize, j: usize) -> bool
     requires i_in_bounds { i < length numbers.now / 2 }
     requires j_in_bounds { j < length numbers.now / 2 }
@@ -89,16 +91,11 @@ fn meet(numbers: &[u32], i: usize, j: usize) -> bool
 }
 
 // Whether the edges from two places have a length and meet.
+#[tactic(auto, unfolding(crate::specs::Meeting::meeting))]
 pub(crate) fn meeting(numbers: &[u32], i: usize, j: usize) -> bool
     requires i_in_bounds { i < length numbers.now / 2 }
     requires j_in_bounds { j < length numbers.now / 2 }
     ensures { result ≡ Meeting·meeting numbers.now i j }
 {
-    if !has_length(numbers, i) {
-        return false;
-    }
-    if !has_length(numbers, j) {
-        return false;
-    }
-    meet(numbers, i, j)
+    has_length(numbers, i) && has_length(numbers, j) && meet(numbers, i, j)
 }

@@ -124,6 +124,7 @@ fn list_near(extents: &[u32], rows: usize, own: usize, near: &mut [usize])
 }
 
 // Tells what is near a row where it starts.
+#[tactic(auto, using(crate::specs::NearRows::near_row, crate::specs::NearRows::near_none, crate::specs::NearRows::rooms_held))]
 pub(crate) fn renew(numbers: &[u32], extents: &[u32], i: usize, near: &mut [usize])
     requires i_in_bounds { i < length numbers.now / 2 }
     requires rooms { Rooms numbers.now extents.now (length near.old) }
