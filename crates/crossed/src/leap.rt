@@ -78,6 +78,7 @@ pub(crate) fn ahead(near: &[usize], from: usize) -> usize
 }
 
 // The first edge from a place on whose extents are not apart from those of the edge from place i, row by row.
+#[tactic(auto, using(crate::specs::Leaps::skipped_on, crate::specs::Leaps::skipped_ahead))]
 fn leap_rows(
     numbers: &[u32],
     extents: &[u32],

@@ -82,6 +82,7 @@ fn keeps(a: Point, b: Point, c: Point, course: Course) -> bool
 }
 
 // The next place, or the one after it where the edge from the next goes on.
+#[tactic(auto, using(crate::specs::Runs::one_free, crate::specs::Runs::two_free))]
 fn past_next(numbers: &[u32], i: usize) -> usize
     requires { i < length numbers.now / 2 }
     ensures { (i < result) × Free numbers.now i result }

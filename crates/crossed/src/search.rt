@@ -11,6 +11,7 @@ use crate::run::run_on;
 
 // The first pair of edges that meets; rooms for rows may be empty. The edges are counted by hand: the two
 // loops are left by a label with the pair found (document 01), and a `for` is left with no value.
+#[tactic(auto, using(crate::specs::Searching::between_first, crate::specs::Searching::between_leap, crate::specs::Searching::between_next, crate::specs::Searching::between_last, crate::specs::Searching::before_next))]
 pub(crate) fn search(numbers: &[u32], extents: &[u32], near: &mut [usize]) -> Option<(usize, usize)>
     requires { Rooms numbers.now extents.now (length near.old) }
     ensures { result ≡ pair_of (corners_of numbers.now) }

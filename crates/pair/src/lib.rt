@@ -1,5 +1,6 @@
 // Two edges of a boundary: whether they share a point, and whether two of which one follows the other
-// share more than their corner. What that is stands in specs/Pair.antt.
+// share more than their corner. What that is stands in specs/Pair.antt. An edge stays two points: the record
+// Edge of the definitions is no type of src/, and a struct beside it would be taken apart in each clause.
 #![tactic(auto)]
 
 ghost use Rattle.std.specs.Prelude.{◌≡◌, ◌&&◌, ◌||◌, ltb};
