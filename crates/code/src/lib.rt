@@ -67,7 +67,7 @@ impl From<Misspelled> for ReadError {
     }
 }
 
-// The number of an answer of writing.
+// The number of an answer of writing. Functions and no From: docs/STATEMENTS.md names these three.
 pub fn written_number(answer: Result<(), WriteError>) -> u32
     ensures { result ≡ (says answer).number }
 {
