@@ -6,14 +6,12 @@ ghost use Rattle.numbers.specs.Numbers.{word as Numbers·word, digits_after, wor
 pub(crate) fn word_end(line: &[u8], at: usize) -> usize
     ensures { result ≡ at + length (Numbers·word (drop at line.now)) }
 {
-    let mut i = at;
-    while i < line.len() {
+    for i in at..line.len() {
         if line[i] == b' ' {
             return i;
         }
-        i += 1;
     }
-    i
+    at.max(line.len())
 }
 
 // The value of a word: 1 to `count` digits, at most `most`, no leading zero but in `0`.
@@ -40,21 +38,15 @@ fn digits(word: &[u8], most: u64) -> Option<u64>
     ensures { result ≡ digits_after most 0 word.now }
 {
     let mut value: u64 = 0;
-    let mut i = 0;
-    while i < word.len() {
-        let byte = word[i];
-        if byte < b'0' {
+    for byte in word {
+        if !byte.is_ascii_digit() {
             return None;
         }
-        if byte > b'9' {
-            return None;
-        }
-        let digit = (byte - b'0') as u64;
+        let digit = (*byte - b'0') as u64;
         if above(value, digit, most) {
             return None;
         }
         value = 10 * value + digit;
-        i += 1;
     }
     Some(value)
 }

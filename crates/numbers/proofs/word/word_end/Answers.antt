@@ -3,6 +3,9 @@
 use borrow.Author.Rules.{rules}
 use native.Mathlib.Omega.{arith}
 use mathlib.Core.Path.{ap, ◌∙◌}
+use Rattle.std.proofs.Common.{inl, inr}
+use Rattle.std.proofs.Math.Nat.{max-eq_left, max-eq_right}
+use Rattle.facts.specs.Numbers.{either_way}
 use lib.ListN.{length}
 use Rattle.numbers.specs.NumbersLaws.{word_end_lem, word_space, word_more}
 use Rattle.numbers.proofs.word.word_end.Goals as goal
@@ -21,4 +24,16 @@ loop-i-preserved c =
 
 pub returns : goal.returns
 returns c =
-    omega (arith, ap length (word_end_lem c.args.line.now c.loop-i.i (search rules)))
+    let at = c.args.at in
+    let line = c.args.line.now in
+    let i = c.loop-i.i in
+    let here = ap length (word_end_lem line i (search rules)) in
+    elim (either_way at (length line)) [
+      | inl h ↦
+          let far = c.max.ensures ∙ max-eq_right h in
+          let stops = c.loop-i.auto.i-end h in
+          omega (arith, far, stops, here, c.loop-i.invariant, c.loop-i-test.false)
+      | inr h ↦
+          let near = c.max.ensures ∙ max-eq_left (omega (arith, h)) in
+          omega (arith, near, ap length (word_end_lem line at (search rules)))
+    ]
