@@ -41,7 +41,8 @@ pub fn beyond(a: Point, b: Point, r: Rectangle) -> bool
         || least(a.lat.0, b.lat.0, r.north.0)
 }
 
-// The latitude of the corner that is furthest right of the line from a to b.
+// The latitude of the corner that is furthest right of the line from a to b. It and the longitude are two
+// functions: latitude and longitude are never mixed.
 fn extreme_lat(a: Point, b: Point, r: Rectangle) -> Lat
     ensures { result ≡ extreme_lat a b r }
 {

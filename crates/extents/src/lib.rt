@@ -38,7 +38,7 @@ pub fn extremes(numbers: &[u32]) -> Rectangle
     r
 }
 
-// The extent in latitude.
+// The extent in latitude. It and that in longitude are two functions: the two are never mixed.
 fn lat_extent(r: Rectangle) -> u32
     ensures { result ≡ lat_extent r }
 {

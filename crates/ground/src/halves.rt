@@ -25,7 +25,8 @@ fn split(level: u32, low: u32, high: u32) -> u32
     low.saturating_add(size(level)).min(high)
 }
 
-// The latitude at which ground is halved into cells of a level; its north side where it is not.
+// The latitude at which ground is halved into cells of a level; its north side where it is not. It and
+// the longitude are two functions: latitude and longitude are never mixed.
 pub fn lat_split(level: u32, r: Rectangle) -> Lat
     ensures { result ≡ lat_split level r }
 {
