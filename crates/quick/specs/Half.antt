@@ -6,7 +6,7 @@ use Rattle.ground.specs.declared.Rectangle.{Rectangle}
 use Rattle.ground.specs.declared.Cell.{Cell}
 use Rattle.ground.specs.Rectangles.{Within, Lies, Wide, centre_of}
 use Rattle.ground.specs.Cells.{sides_of, IsCell}
-use Rattle.edge.specs.Edge.{Edge, misses}
+use Rattle.edge.specs.Edge.{Edge, beyond, misses}
 use Rattle.boundary.specs.Boundary.{point_inside, unmet, ground_inside, inside}
 use Rattle.boundary.specs.Closed.{Closed}
 use Rattle.boundary.specs.Keeps.{Keeps}
@@ -32,7 +32,13 @@ meeting r (e ∷ es) = cond (misses e r) (meeting r es) (e ∷ meeting r es)
 pub record MissedTo (room : List ℕ) (r : Rectangle) (from to : ℕ) : Type 0 where
   pub each : (j : ℕ) → from ≤ j → j < to → misses (edge_in room j) r ≡ true
 
--- The place of the first of the edges between two places that meets a rectangle, or one past them
+-- The place of the first of the edges between two places that is not beyond a side of a rectangle, or one past them
+pub record NearFirst (room : List ℕ) (r : Rectangle) (from to place : ℕ) : Type 0 where
+  pub least : from ≤ place
+  pub missed : MissedTo room r from place
+  pub near : place < to → beyond (edge_in room place) r ≡ false
+
+-- and of the first that meets it
 pub record MetFirst (room : List ℕ) (r : Rectangle) (from to place : ℕ) : Type 0 where
   pub least : from ≤ place
   pub missed : MissedTo room r from place

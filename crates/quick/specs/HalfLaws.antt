@@ -22,7 +22,7 @@ use Rattle.boundary.specs.Keeps.{Keeps, keeps_inner, keeps_drop, keeps_unmet, ke
 use Rattle.boundary.specs.Listed.{edges_in, edge_in, with_edge}
 use Rattle.boundary.specs.ListedLaws.{edges_length, edges_from, with_length_lem, edge_there, edge_before}
 use Rattle.quick.specs.declared.half.Half.{Half}
-use Rattle.quick.specs.Half.{kept_in, meeting, MissedTo, MetFirst, Same, Sound, narrowed, part_of, starting_at, Part, StrictlyBetween, AllIn}
+use Rattle.quick.specs.Half.{kept_in, meeting, MissedTo, NearFirst, MetFirst, Same, Sound, narrowed, part_of, starting_at, Part, StrictlyBetween, AllIn}
 
 -- Edges that are the same at so many places from one on make the same list
 places_same : (f g : ℕ → Edge) (n i : ℕ) → ((j : ℕ) → i ≤ j → j < i + n → f j ≡ g j) → map f (count_up n i) ≡ map g (count_up n i)
@@ -92,12 +92,31 @@ missed_then {room} {r} {from} {to} {end} m n = record { each = λ j h k. at j h 
     at j h k (inl l) = n.each j l k
     at j h k (inr l) = m.each j h l
 
+-- none up to the first
+pub missed_none : (room : List ℕ) (r : Rectangle) (from : ℕ) → MissedTo room r from from
+missed_none room r from = record { each = λ j h k. let none : ⊥ = omega arith in absurd none }
+
 -- and one more
 pub missed_again : {room : List ℕ} {r : Rectangle} {from i : ℕ} → MissedTo room r from i → misses (edge_in room i) r ≡ true → MissedTo room r from (i + 1)
 missed_again {room} {r} {from} {i} m t = missed_then m (record { each = λ j h k. one j h k })
   where
     one : (j : ℕ) → i ≤ j → j < i + 1 → misses (edge_in room j) r ≡ true
     one j h k = let same : i ≡ j = omega arith in subst (λ (n : ℕ). misses (edge_in room n) r ≡ true) same t
+
+-- The first edge that is not beyond a side, asked again past each that misses: where the first call ended
+pub near_begin : {room : List ℕ} {r : Rectangle} {from to place : ℕ} → NearFirst room r from to place → NearFirst room r place to place
+near_begin {room} {r} {place = place} n = record { least = omega arith; missed = missed_none room r place; near = n.near }
+
+-- past an edge that misses, to where the next call ended
+pub near_again : {room : List ℕ} {r : Rectangle} {from to i place : ℕ} → NearFirst room r from to i → misses (edge_in room i) r ≡ true
+    → NearFirst room r (i + 1) to place → NearFirst room r from to place
+near_again n t next =
+    record { least = omega (arith, n.least, next.least); missed = missed_then (missed_again n.missed t) next.missed; near = next.near }
+
+-- and the place where it ends is that of the first that meets
+pub near_met : {room : List ℕ} {r : Rectangle} {from to first place : ℕ} → NearFirst room r from to first → NearFirst room r first to place
+    → (place < to → misses (edge_in room place) r ≡ false) → MetFirst room r from to place
+near_met n m met = record { least = omega (arith, n.least, m.least); missed = missed_then n.missed m.missed; met = met }
 
 -- Edges that miss a rectangle need not be kept for it
 keeps_passed : {es : List Edge} {room : List ℕ} {r : Rectangle} (to n i : ℕ) → MissedTo room r i (i + n) → Keeps es r (kept_in room i to)

@@ -1,7 +1,7 @@
 -- The laws of the search: levels that are too wide, the half that a descent starts from, the answers for the ground of a column and for all
 -- ground, as the loops carry them on, and the chosen cell that they give. Assumes nothing.
-use Rattle.std.specs.Prelude.{ℕ, ◌+◌, ◌-◌, ◌*◌, ◌/◌, ◌≤◌, ◌<◌, ◌≡◌, refl, ◌⊎◌, true, false, List, ltb, Option, Some, None}
-use Rattle.std.proofs.Common.{arith, sym, subst, inl, inr, ltb-true}
+use Rattle.std.specs.Prelude.{ℕ, ◌+◌, ◌-◌, ◌*◌, ◌/◌, ◌≤◌, ◌<◌, ◌≡◌, refl, ◌⊎◌, Bool, true, false, ◌||◌, List, ltb, Option, Some, None}
+use Rattle.std.proofs.Common.{eq-or-lt_of_le, arith, sym, ap, subst, ◌∙◌, inl, inr, ltb-true}
 use Rattle.facts.specs.Tests.{either, true_of, holds}
 use Rattle.facts.specs.Numbers.{either_way}
 use Rattle.facts.specs.Lists.{each_so}
@@ -29,6 +29,28 @@ use Rattle.quick.specs.Half.{kept_in, Sound, AllIn}
 use Rattle.quick.specs.First.{Wanted, Gained, First, Past}
 use Rattle.quick.specs.FirstLaws.{before_most, first_stays, first_all, first_lat, first_lon, past_first}
 use Rattle.quick.specs.Descent.{Seeks, ByLat, Levels, column, everywhere, too_wide, TooWideBefore, NoneCoarser}
+
+-- An answer of two tests in turn: the first where it holds
+pub or_first : {w a : Bool} (b : Bool) → w ≡ a → w ≡ true → w ≡ (a || b)
+or_first b is t = t ∙ sym (ap (λ (x : Bool). x || b) (sym is ∙ t))
+
+-- else the second
+pub or_second : {v w a b : Bool} → v ≡ a → v ≡ false → w ≡ b → w ≡ (a || b)
+or_second {b = b} is f e = e ∙ sym (ap (λ (x : Bool). x || b) (sym is ∙ f))
+
+-- At first there is no level before
+pub wide_begin : (r : Rectangle) → TooWideBefore r coarsest_level
+wide_begin r n less least = let none : ⊥ = omega arith in absurd none
+
+-- One more level that is too wide
+pub wide_again : (r : Rectangle) {level : ℕ} → TooWideBefore r level → too_wide r level ≡ true → TooWideBefore r (level + 1)
+wide_again r {level} before wide n less least =
+    let most : n ≤ level = omega arith in
+    at (eq-or-lt_of_le most)
+  where
+    at : (n ≡ level) ⊎ (n < level) → too_wide r n ≡ true
+    at (inl e) = subst (λ (m : ℕ). too_wide r m ≡ true) (sym e) wide
+    at (inr l) = before n l least
 
 -- A cell of a level that is too wide is not inside
 pub wide_none : {r : Rectangle} {es : List Edge} → Over r es → (d : Cell) → IsCell d → inside es d ≡ true

@@ -20,11 +20,13 @@
 
 mod accounts;
 mod codes;
+mod outgoing;
 mod pages;
 mod questions;
 mod request;
 mod road;
 
+use crate::outgoing::Outgoing;
 use std::io;
 use std::io::{Read, Write};
 
@@ -32,127 +34,82 @@ use std::io::{Read, Write};
 // the output is written.
 const ANSWER: usize = 25000;
 
-// The bytes of a read, and of the output that waits: large, for much data.
-const BUFFER: usize = 65536;
+// The bytes of a read: many, for much data.
+const READ: usize = 65536;
 
-// What goes from read to read: how many bytes of the line that comes in stand in the room, how many
-// bytes of the output wait to be written, and whether all writes went well.
+// What fails and ends the program: a read or a write.
 #[derive(Drop)]
-struct State {
-    len: usize,
-    waiting: usize,
-    sound: bool,
+enum Failed {
+    Read(io::Error),
+    Write(io::Error),
 }
 
 fn main(rt: HostRuntime) {
-    let mut input = [0u8; BUFFER];
-    let mut output = [0u8; BUFFER];
+    let mut input = [0u8; READ];
     let mut room = [0u8; lines::ROOM];
-    answer_all(&rt, &mut input, &mut room, &mut output);
+    match answer_all(&rt, &mut input, &mut room, &mut Outgoing::empty()) {
+        Ok(()) => (),
+        Err(Failed::Read(e)) => say(&rt, "standard input", e),
+        Err(Failed::Write(e)) => say(&rt, "standard output", e),
+    }
 }
 
-// Reads until the input ends. Nothing says that it does, so the reads count down, from a number that
-// no run uses up. What waits is written before each read.
-fn answer_all(rt: &HostRuntime, input: &mut [u8], room: &mut [u8], output: &mut [u8]) {
-    let mut state = State {
-        len: 0,
-        waiting: 0,
-        sound: true,
-    };
-    let mut reads = u64::MAX;
-    while reads > 0 {
-        state = write_out(rt, state, output);
-        if !state.sound {
-            return;
-        }
-        let n = match rt.stdin().read(input) {
-            Ok(n) => n,
-            Err(e) => return say(rt, "standard input", e),
-        };
+// Reads until the input ends. Nothing says that it does, so the reads are counted, up to a number that no
+// run uses up. What waits is written before each read. A last line needs no line feed, and none starts
+// after a line feed that ends the input.
+fn answer_all(
+    rt: &HostRuntime,
+    input: &mut [u8],
+    room: &mut [u8],
+    out: &mut Outgoing,
+) -> Result<(), Failed> {
+    let mut len = 0;
+    for _ in 0..u64::MAX {
+        write_out(rt, out)?;
+        let n = rt.stdin().read(input).map_err(Failed::Read)?;
         if n == 0 {
-            finish(rt, state, room, output);
-            return;
+            break;
         }
-        state = take(rt, state, &input[..n], room, output);
-        reads -= 1;
+        for byte in &input[..n] {
+            len = take_byte(rt, room, len, *byte, out)?;
+        }
     }
+    if len > 0 {
+        end_line(rt, room, len, out)?;
+    }
+    write_out(rt, out)
 }
 
-// Answers the lines that end in the bytes of one read, up to a failed write.
-fn take(rt: &HostRuntime, start: State, bytes: &[u8], room: &mut [u8], output: &mut [u8]) -> State {
-    let mut state = start;
-    let mut i = 0;
-    while i < bytes.len() && state.sound {
-        state = take_byte(rt, state, bytes[i], room, output);
-        i += 1;
-    }
-    state
-}
-
-// A line feed ends a line; any other byte goes into the room.
+// Takes one byte of a line of which so many stand in the room: a line feed ends the line, any other byte
+// goes into the room.
 fn take_byte(
     rt: &HostRuntime,
-    state: State,
-    byte: u8,
     room: &mut [u8],
-    output: &mut [u8],
-) -> State {
+    len: usize,
+    byte: u8,
+    out: &mut Outgoing,
+) -> Result<usize, Failed> {
     if byte == b'\n' {
-        return end_line(rt, state, room, output);
+        end_line(rt, room, len, out)?;
+        return Ok(0);
     }
-    let len = lines::add(room, state.len, byte);
-    State {
-        len,
-        waiting: state.waiting,
-        sound: state.sound,
-    }
+    Ok(lines::add(room, len, byte))
 }
 
-// Answers a line and starts the next, and writes what waits where little room is left.
-fn end_line(rt: &HostRuntime, state: State, room: &[u8], output: &mut [u8]) -> State {
-    let waiting = request::answer_line(room, state.len, output, state.waiting);
-    let next = State {
-        len: 0,
-        waiting,
-        sound: true,
-    };
-    if waiting < output.len() && output.len() - waiting >= ANSWER {
-        return next;
+// Answers a line, and writes what waits where little room is left.
+fn end_line(rt: &HostRuntime, room: &[u8], len: usize, out: &mut Outgoing) -> Result<(), Failed> {
+    request::answer_line(room, len, out);
+    if out.left() >= ANSWER {
+        return Ok(());
     }
-    write_out(rt, next, output)
+    write_out(rt, out)
 }
 
-// Writes what waits, or says that it cannot. After a failed write it writes nothing.
-fn write_out(rt: &HostRuntime, state: State, output: &[u8]) -> State {
-    if !state.sound {
-        return state;
-    }
-    let waiting = state.waiting;
-    let sound = waiting <= output.len() && written(rt, &output[0..waiting]);
-    State {
-        len: state.len,
-        waiting: 0,
-        sound,
-    }
-}
-
-// Answers a last line that has no line feed, and writes what waits. No line starts after a line feed
-// that ends the input.
-fn finish(rt: &HostRuntime, state: State, room: &[u8], output: &mut [u8]) {
-    if state.len > 0 {
-        write_out(rt, end_line(rt, state, room, output), output);
-    }
-}
-
-// Writes bytes to standard output, or says that it cannot.
-fn written(rt: &HostRuntime, bytes: &[u8]) -> bool {
-    match rt.stdout().write_all(bytes) {
-        Ok(()) => true,
-        Err(e) => {
-            say(rt, "standard output", e);
-            false
-        }
-    }
+// Writes what waits.
+fn write_out(rt: &HostRuntime, out: &mut Outgoing) -> Result<(), Failed> {
+    rt.stdout().write_all(out.waiting()).map_err(Failed::Write)?;
+    out.clear();
+    Ok(())
 }
 
 // Says on standard error what failed; who closed a pipe wants no word. Where it cannot be written, nothing is

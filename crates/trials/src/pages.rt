@@ -1,272 +1,160 @@
 // Journal pages: the answers to `record KIND NUMBER OFFSET PAGE TEXT`, to `look OFFSET PAGE` and to `replay
 // PAGE`. PAGE is hexadecimal, two digits a byte, and `-` where it is empty; it ends at a space or at the
-// line's end. A position of 0 says that no page stood there: none ends at a line's first byte.
-use crate::accounts::{after_space, put_account, put_number};
+// line's end.
+ghost use Rattle.std.specs.Prelude.{◌≤◌, ◌*◌, length, IfSome};
+
+use crate::accounts::{after_blank, after_space, put_account};
+use crate::outgoing::Outgoing;
 use entitlements::Kind;
-use numbers::Long;
-use page::{Found, Record};
+use page::Record;
 use replaying::Counts;
 
 // More bytes than the page of a line has: each takes two digits.
 const MOST: usize = lines::LONGEST / 2;
 
-// The page that a request states: how many bytes of the room it has, and the position after it.
-#[derive(Drop)]
-struct Stated {
-    len: usize,
-    end: usize,
-}
+// The digits of a byte by their values.
+const DIGITS: [u8; 16] = *b"0123456789ABCDEF";
 
 // `record KIND NUMBER OFFSET PAGE TEXT`: the text is the rest of the line after one more space.
-pub(crate) fn answer_record(text: &[u8], out: &mut [u8], at: usize) -> usize {
+pub(crate) fn answer_record(text: &[u8], out: &mut Outgoing) -> Option<()> {
     if lines::starts(text, b"record A ") {
-        return record(Kind::Activate, text, out, at);
+        return record(Kind::Activate, text, out);
     }
     if lines::starts(text, b"record C ") {
-        return record(Kind::Cancel, text, out, at);
+        return record(Kind::Cancel, text, out);
     }
-    at
+    None
 }
 
-fn record(kind: Kind, text: &[u8], out: &mut [u8], at: usize) -> usize {
-    let number = numbers::long_at(text, 9);
-    let Long::At(number, end) = number else {
-        return at;
-    };
-    let offset = after_space(text, end);
-    let Long::At(offset, end) = offset else {
-        return at;
-    };
+fn record(kind: Kind, text: &[u8], out: &mut Outgoing) -> Option<()> {
+    let (number, end) = numbers::long_at(text, 9)?;
+    let (offset, end) = after_space(text, end)?;
     let mut room = [0u8; MOST];
-    let page = page_at(text, end, &mut room);
-    let len = page.len;
-    let end = page.end;
-    if end == 0 {
-        return at;
-    }
-    if text.len() <= end {
-        return at;
-    }
-    if room.len() < len {
-        return at;
-    }
-    record_in(
-        &mut room[0..len],
-        offset as usize,
-        kind,
-        &text[end + 1..],
-        number,
-        out,
-        at,
-    )
-}
-
-// Writes the record, and puts the answer and the page afterwards.
-fn record_in(
-    page: &mut [u8],
-    offset: usize,
-    kind: Kind,
-    code: &[u8],
-    number: u64,
-    out: &mut [u8],
-    at: usize,
-) -> usize {
-    let answer = page::write_at(page, offset, kind, code, number);
-    let end = output::put_decimal(out, at, page::written_number(answer) as u64);
-    let end = room::put(out, end, b" ");
-    put_page(page, out, end)
+    let (len, end) = page_at(text, end, &mut room)?;
+    let start = after_blank(text, end)?;
+    let page = &mut room[..len];
+    let answer = page::write_at(page, offset as usize, kind, &text[start..], number);
+    out.put_decimal(page::written_number(answer) as u64);
+    out.put(b" ");
+    put_page(page, out);
+    Some(())
 }
 
 // `look OFFSET PAGE`.
-pub(crate) fn answer_look(text: &[u8], out: &mut [u8], at: usize) -> usize {
-    let offset = numbers::long_at(text, 5);
-    let Long::At(offset, end) = offset else {
-        return at;
-    };
+pub(crate) fn answer_look(text: &[u8], out: &mut Outgoing) -> Option<()> {
+    let (offset, end) = numbers::long_at(text, 5)?;
     let mut room = [0u8; MOST];
-    let page = page_at(text, end, &mut room);
-    let len = page.len;
-    if page.end != text.len() {
-        return at;
+    let (len, end) = page_at(text, end, &mut room)?;
+    if end != text.len() {
+        return None;
     }
-    if room.len() < len {
-        return at;
-    }
-    look_in(&room[0..len], offset as usize, out, at)
+    look_in(&room[..len], offset as usize, out);
+    Some(())
 }
 
 // Looks at an offset: the record's kind and number, with the code's own bytes in the page.
-fn look_in(page: &[u8], offset: usize, out: &mut [u8], at: usize) -> usize {
-    let found = page::look(page, offset);
-    match found {
-        Found::Record(record) => put_record(record, page::code_at(page, offset), out, at),
-        Found::End => room::put(out, at, b"end"),
-        _ => output::put_decimal(out, at, page::found_number(found) as u64),
+fn look_in(page: &[u8], offset: usize, out: &mut Outgoing) {
+    let looked = page::look(page, offset);
+    match looked {
+        Ok(Some(record)) => put_record(record, page::code_at(page, offset), out),
+        Ok(None) => out.put(b"end"),
+        Err(_) => out.put_decimal(page::found_number(looked) as u64),
     }
 }
 
-fn put_record(record: Record, code: &[u8], out: &mut [u8], at: usize) -> usize {
-    let kind = record.kind;
-    let end = put_kind(kind, out, at);
-    let end = put_number(out, end, record.number);
-    let end = room::put(out, end, b" ");
-    room::put(out, end, code)
-}
-
-fn put_kind(kind: Kind, out: &mut [u8], at: usize) -> usize {
-    match kind {
-        Kind::Activate => room::put(out, at, b"0 A"),
-        Kind::Cancel => room::put(out, at, b"0 C"),
+fn put_record(record: Record, code: &[u8], out: &mut Outgoing) {
+    match record.kind {
+        Kind::Activate => out.put(b"0 A"),
+        Kind::Cancel => out.put(b"0 C"),
     }
+    out.put_number(record.number);
+    out.put(b" ");
+    out.put(code);
 }
 
 // `replay PAGE`.
-pub(crate) fn answer_replay(text: &[u8], out: &mut [u8], at: usize) -> usize {
+pub(crate) fn answer_replay(text: &[u8], out: &mut Outgoing) -> Option<()> {
     let mut room = [0u8; MOST];
-    let page = page_at(text, 6, &mut room);
-    let len = page.len;
-    if page.end != text.len() {
-        return at;
+    let (len, end) = page_at(text, 6, &mut room)?;
+    if end != text.len() {
+        return None;
     }
-    if room.len() < len {
-        return at;
-    }
-    replay_in(&room[0..len], out, at)
+    replay_in(&room[..len], out);
+    Some(())
 }
 
-fn replay_in(page: &[u8], out: &mut [u8], at: usize) -> usize {
+fn replay_in(page: &[u8], out: &mut Outgoing) {
     let replayed = replaying::replay(page);
-    let counts = replayed.counts;
-    let account = replayed.account;
-    let end = output::put_decimal(out, at, replayed.refusal as u64);
-    let end = put_number(out, end, replayed.offset as u64);
-    let end = put_counts(counts, out, end);
-    put_account(account, out, end)
+    out.put_decimal(replayed.refusal as u64);
+    out.put_number(replayed.offset as u64);
+    put_counts(replayed.counts, out);
+    put_account(&replayed.account, out);
 }
 
-fn put_counts(counts: Counts, out: &mut [u8], at: usize) -> usize {
-    let end = put_number(out, at, counts.activated);
-    let end = put_number(out, end, counts.already);
-    let end = put_number(out, end, counts.cancelled);
-    let end = put_number(out, end, counts.inactive);
-    let end = put_number(out, end, counts.old);
-    put_number(out, end, counts.full)
+fn put_counts(counts: Counts, out: &mut Outgoing) {
+    out.put_number(counts.activated);
+    out.put_number(counts.already);
+    out.put_number(counts.cancelled);
+    out.put_number(counts.inactive);
+    out.put_number(counts.old);
+    out.put_number(counts.full);
 }
 
 // Puts a page, two digits a byte.
-fn put_page(page: &[u8], out: &mut [u8], at: usize) -> usize {
-    if page.len() == 0 {
-        return room::put(out, at, b"-");
+fn put_page(page: &[u8], out: &mut Outgoing) {
+    if page.is_empty() {
+        out.put(b"-");
     }
-    let mut end = at;
-    let mut i = 0;
-    while i < page.len() {
-        end = put_byte(page[i], out, end);
-        i += 1;
+    for byte in page {
+        let digits = [DIGITS[(*byte / 16) as usize], DIGITS[(*byte % 16) as usize]];
+        out.put(&digits);
     }
-    end
 }
 
-fn put_byte(byte: u8, out: &mut [u8], at: usize) -> usize {
-    let digits = [digit_of(byte / 16), digit_of(byte % 16)];
-    room::put(out, at, &digits)
+// The byte of two hexadecimal digits.
+fn paired(high: u8, low: u8) -> Option<u8> {
+    let high = char::from(high).to_digit(16)?;
+    let low = char::from(low).to_digit(16)?;
+    u8::try_from(high * 16 + low).ok()
 }
 
-// The digit of a value below 16.
-fn digit_of(value: u8) -> u8 {
-    if value < 10 {
-        return b'0' + value;
+// Puts the bytes of the digits that a text starts with into a room, and counts them.
+fn fill(digits: &[u8], page: &mut [u8]) -> usize
+    ensures fits { result ≤ length page.new }
+    ensures pairs { 2 * result ≤ length digits.now }
+{
+    let most = page.len().min(digits.len() / 2);
+    for i in 0..most {
+        let Some(value) = paired(digits[2 * i], digits[2 * i + 1]) else {
+            return i;
+        };
+        page[i] = value;
     }
-    b'A' + value % 16 - 10
+    most
 }
 
-// The value of a hexadecimal digit, and 16 for any other byte.
-fn digit(byte: u8) -> u8 {
-    if byte >= b'0' && byte <= b'9' {
-        return byte - b'0';
+// The page that stands after one space at a position: how many bytes of the room it has, and the position
+// after it.
+fn page_at(text: &[u8], at: usize, page: &mut [u8]) -> Option<(usize, usize)>
+    ensures { IfSome result (λ stated. stated.0 ≤ length page.new) }
+{
+    let start = after_blank(text, at)?;
+    let len = fill(&text[start..], page);
+    if len > 0 {
+        return ended(text, len, start + 2 * len);
     }
-    if byte >= b'A' && byte <= b'F' {
-        return byte - b'A' + 10;
+    if start < text.len() && text[start] == b'-' {
+        return ended(text, 0, start + 1);
     }
-    if byte >= b'a' && byte <= b'f' {
-        return byte - b'a' + 10;
-    }
-    16
+    None
 }
 
-// The byte of two digits at a position, and 256 where there are none.
-fn pair_at(text: &[u8], at: usize) -> u32 {
-    if text.len() < 2 {
-        return 256;
-    }
-    if text.len() - 2 < at {
-        return 256;
-    }
-    paired(digit(text[at]), digit(text[at + 1]))
-}
-
-fn paired(high: u8, low: u8) -> u32 {
-    if high > 15 {
-        return 256;
-    }
-    if low > 15 {
-        return 256;
-    }
-    high as u32 * 16 + low as u32
-}
-
-// Puts the bytes of the digits from a position on into a room.
-fn fill(text: &[u8], at: usize, page: &mut [u8]) -> Stated {
-    let mut len = 0;
-    let mut end = at;
-    while len < page.len() {
-        let byte = pair_at(text, end);
-        if byte > 255 {
-            return Stated { len, end };
-        }
-        page[len] = byte as u8;
-        len += 1;
-        end = std::num::wrapping_add_usize(end, 2);
-    }
-    Stated { len, end }
-}
-
-fn none() -> Stated {
-    Stated { len: 0, end: 0 }
-}
-
-// The page that stands after one space at a position.
-fn page_at(text: &[u8], at: usize, page: &mut [u8]) -> Stated {
-    if text.len() < 2 {
-        return none();
-    }
-    if text.len() - 2 < at {
-        return none();
-    }
-    if text[at] != b' ' {
-        return none();
-    }
-    if text[at + 1] == b'-' {
-        return ended(
-            text,
-            Stated {
-                len: 0,
-                end: at + 2,
-            },
-        );
-    }
-    let stated = fill(text, at + 1, page);
-    if stated.len == 0 {
-        return none();
-    }
-    ended(text, stated)
-}
-
-// A page that ends at a space or at the line's end.
-fn ended(text: &[u8], stated: Stated) -> Stated {
-    let end = stated.end;
+// A page of so many bytes that ends at a space or at the line's end.
+fn ended(text: &[u8], len: usize, end: usize) -> Option<(usize, usize)>
+    ensures { IfSome result (λ stated. stated.0 ≤ len) }
+{
     if end < text.len() && text[end] != b' ' {
-        return none();
+        return None;
     }
-    stated
+    Some((len, end))
 }

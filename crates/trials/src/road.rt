@@ -1,8 +1,8 @@
 // Coding a unit by a road: the answers to `plain ROOM KIND NUMBER COORDINATE..` and `quick ..`.
+use crate::outgoing::Outgoing;
 use crate::request::{MOST, put_said};
-use numbers::Number;
 use stated::Unit;
-use unit::Coded;
+use unit::Refusal;
 
 // The two roads.
 #[derive(Drop)]
@@ -11,70 +11,35 @@ pub enum Road {
     Quick,
 }
 
-// What is asked beside the coordinates: the road, the letter of the kind and the unit number.
-#[derive(Drop)]
-struct Asked {
-    road: Road,
-    letter: u8,
-    number: u32,
-}
-
 // The answer to a request that names the road, whose room's size starts after the name and a space.
-pub(crate) fn answer(road: Road, text: &[u8], out: &mut [u8], at: usize) -> usize {
-    let size = numbers::number_at(text, 6);
-    let Number::At(size, end) = size else {
-        return at;
-    };
+pub(crate) fn answer(road: Road, text: &[u8], out: &mut Outgoing) -> Option<()> {
+    let (size, end) = numbers::number_at(text, 6)?;
     if text.len() <= end {
-        return at;
+        return None;
     }
-    answer_unit(road, size as usize, &text[end + 1..text.len()], out, at)
+    answer_unit(road, size as usize, &text[end + 1..], out)
 }
 
 // Codes the unit of a text into a room of so many bytes `.`, 64 at most.
-fn answer_unit(road: Road, size: usize, text: &[u8], out: &mut [u8], at: usize) -> usize {
+fn answer_unit(road: Road, size: usize, text: &[u8], out: &mut Outgoing) -> Option<()> {
     let mut numbers = [0u32; MOST];
-    let unit = stated::unit_of(text, &mut numbers);
-    let Unit::Stated(letter, number, count) = unit else {
-        return at;
-    };
-    if numbers.len() < count {
-        return at;
-    }
-    let asked = Asked {
-        road,
-        letter,
-        number,
-    };
-    code_sized(asked, size, &numbers[0..count], out, at)
-}
-
-fn code_sized(asked: Asked, size: usize, numbers: &[u32], out: &mut [u8], at: usize) -> usize {
     let mut room = [b'.'; 64];
-    if room.len() < size {
-        return at;
+    let unit = stated::unit_of(text, &mut numbers)?;
+    let count = unit.count;
+    if numbers.len() < count || room.len() < size {
+        return None;
     }
-    code_into(asked, &mut room[0..size], numbers, out, at)
-}
-
-// Codes a unit into the room.
-fn code_into(asked: Asked, room: &mut [u8], numbers: &[u32], out: &mut [u8], at: usize) -> usize {
-    let said = code_by(asked, room, numbers);
-    put_said(
-        unit::coded_number(said),
-        unit::coded_place(said),
-        room,
-        out,
-        at,
-    )
+    let room = &mut room[..size];
+    let said = code_by(road, unit, room, &numbers[..count]);
+    put_said(unit::coded_number(said), unit::coded_place(said), room, out);
+    Some(())
 }
 
 // What a road says.
-fn code_by(asked: Asked, room: &mut [u8], numbers: &[u32]) -> Coded {
-    let road = asked.road;
-    let kind = unit::kind_of(asked.letter);
+fn code_by(road: Road, unit: Unit, room: &mut [u8], numbers: &[u32]) -> Result<(), Refusal> {
+    let kind = unit::kind_of(unit.letter);
     match road {
-        Road::Plain => plain::code(room, numbers, kind, asked.number),
-        Road::Quick => quick::code(room, numbers, kind, asked.number),
+        Road::Plain => plain::code(room, numbers, kind, unit.number),
+        Road::Quick => quick::code(room, numbers, kind, unit.number),
     }
 }

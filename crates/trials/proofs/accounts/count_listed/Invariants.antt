@@ -1,10 +1,6 @@
--- `trials::accounts::count_listed` is safe and ends. The measure is the places to come. Assumes nothing.
-use Rattle.std.proofs.Common.{◌-◌, ◌≤◌}
-use Rattle.places.specs.Places.{places}
+-- `trials::accounts::count_listed` is safe: it has counted at most the places that it saw. Assumes nothing.
+use Rattle.std.proofs.Common.{◌≤◌}
 use Rattle.trials.proofs.accounts.count_listed.Given as goal
 
-abbrev pub invariant-loop-i : goal.invariant-loop-i
-invariant-loop-i l = l.i ≤ places
-
-abbrev pub decreases-loop-i : goal.decreases-loop-i
-decreases-loop-i l = places - l.i
+abbrev pub invariant-loop-place : goal.invariant-loop-place
+invariant-loop-place l = l.count ≤ l.place
