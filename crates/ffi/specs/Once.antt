@@ -5,7 +5,7 @@ use Rattle.std.proofs.Common.{ap}
 use Rattle.replies.specs.Replies.{Said, Outcome}
 use Rattle.facts.specs.Once.{once, said_once}
 use Rattle.code.specs.Code.{Told}
-use Rattle.page.specs.declared.Found.{Found}
+use Rattle.page.specs.Page.{Found}
 use Rattle.ffi.specs.declared.Reply.{Reply}
 use Rattle.ffi.specs.declared.Reading.{Reading}
 use Rattle.ffi.specs.declared.Looked.{Looked}

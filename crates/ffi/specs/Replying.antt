@@ -1,20 +1,18 @@
 -- Laws of replies in numbers: what the crates below answer, put into numbers, says the same. Assumes nothing.
-use Rattle.std.specs.Prelude.{ℕ, ◌+◌, ◌≡◌, refl, List, take, drop}
+use Rattle.std.specs.Prelude.{ℕ, ◌+◌, ◌≡◌, refl, List, take, drop, Result, Some, None, Ok, Err}
 use Rattle.std.proofs.Common.{arith, ap, ap₂, ◌∙◌, sym}
 use Rattle.replies.specs.Replies.{Said, refused, Outcome}
 use Rattle.ground.specs.declared.Rectangle.{Rectangle}
 use Rattle.code.specs.declared.Fields.{Fields}
-use Rattle.code.specs.declared.Written.{Written}
-use Rattle.code.specs.declared.Written.TheVariants as written
+use Rattle.code.specs.declared.WriteError.{WriteError}
+use Rattle.code.specs.declared.WriteError.TheVariants as written
 use Rattle.code.specs.declared.Reading.{Reading}
-use Rattle.code.specs.declared.Reading.TheVariants as reads
+use Rattle.code.specs.declared.ReadError.{ReadError}
 use Rattle.code.specs.Code as of_code
 use Rattle.entitlements.specs.Entitlements.{letter_of}
-use Rattle.page.specs.declared.Written as of_page
-use Rattle.page.specs.declared.Written.TheVariants as recorded
+use Rattle.page.specs.declared.RecordError.TheVariants as recorded
 use Rattle.page.specs.declared.Record.{Record}
-use Rattle.page.specs.declared.Found.{Found}
-use Rattle.page.specs.declared.Found.TheVariants as found
+use Rattle.page.specs.declared.LookError.TheVariants as look
 use Rattle.page.specs.Page as page
 use Rattle.ffi.specs.declared.Reply.{Reply}
 use Rattle.ffi.specs.Replies.{said, leaves, tells, looked_by, looked_of}
@@ -35,35 +33,35 @@ pub leaves_nowhere : (s : Said) {o : Outcome} {r : Reply} {n : ℕ} {room : List
 leaves_nowhere s {room = room} none p e k = ap (λ (t : Said). leaving t room) (k ∙ says_both s e (sym none)) ∙ p
 
 -- Writing names no place
-pub writing_nowhere : (w : Written) → (of_code.says w).place ≡ 0
-writing_nowhere written.Accepted = refl
-writing_nowhere written.Output = refl
-writing_nowhere written.Reference = refl
-writing_nowhere written.Scale = refl
-writing_nowhere written.Span = refl
-writing_nowhere written.Number = refl
+pub writing_nowhere : (w : Result (Unit {0}) WriteError) → (of_code.says w).place ≡ 0
+writing_nowhere (Ok _) = refl
+writing_nowhere (Err written.Output) = refl
+writing_nowhere (Err written.Reference) = refl
+writing_nowhere (Err written.Scale) = refl
+writing_nowhere (Err written.Span) = refl
+writing_nowhere (Err written.Number) = refl
 
 -- What writing leaves: the place is always 0
-pub write_leaves : (w : Written) (o : Outcome) {n : ℕ} {room : List ℕ} → of_code.leaves w room ≡ o → n ≡ (of_code.says w).number
+pub write_leaves : (w : Result (Unit {0}) WriteError) (o : Outcome) {n : ℕ} {room : List ℕ} → of_code.leaves w room ≡ o → n ≡ (of_code.says w).number
     → leaves (record { number = n; place = 0 }) room ≡ o
 write_leaves w o {n} {room} p e = ap (λ (s : Said). leaving s room) (says_both (of_code.says w) e (sym (writing_nowhere w))) ∙ p
 
 -- and recording does not
-pub recording_nowhere : (w : of_page.Written) → (page.says w).place ≡ 0
-recording_nowhere recorded.Accepted = refl
-recording_nowhere recorded.Number = refl
-recording_nowhere recorded.Code = refl
-recording_nowhere recorded.Short = refl
+pub recording_nowhere : (w : page.Written) → (page.says w).place ≡ 0
+recording_nowhere (Ok _) = refl
+recording_nowhere (Err recorded.Number) = refl
+recording_nowhere (Err recorded.Code) = refl
+recording_nowhere (Err recorded.Short) = refl
 
 -- What reading tells, where it accepts
-pub accepts : (a : Reading) {f : Fields} {r : Rectangle} → a ≡ reads.Accepted f r → {n p : ℕ} → n ≡ (of_code.tells a).said.number
-    → p ≡ (of_code.tells a).said.place → tells (record { reply = record { number = n; place = p }; fields = f; rectangle = r }) ≡ of_code.tells a
-accepts a {f} {r} seen e k =
-    let told = says_both (of_code.tells a).said e k ∙ ap (λ (b : Reading). (of_code.tells b).said) seen in
-    ap (λ (s : Said). telling s f r) told ∙ ap of_code.tells (sym seen)
+pub accepts : (a : Result Reading ReadError) {read : Reading} → a ≡ Ok read → {n p : ℕ} → n ≡ (of_code.tells a).said.number
+    → p ≡ (of_code.tells a).said.place → tells (record { reply = record { number = n; place = p }; fields = read.fields; rectangle = read.rectangle }) ≡ of_code.tells a
+accepts a {read} seen e k =
+    let told = says_both (of_code.tells a).said e k ∙ ap (λ (b : Result Reading ReadError). (of_code.tells b).said) seen in
+    ap (λ (s : Said). telling s read.fields read.rectangle) told ∙ ap of_code.tells (sym seen)
 
 -- A look at a record
-pub record_looked : {f : Found} {r : Record} → f ≡ found.Record r → {l : ℕ} → l ≡ letter_of r.kind → looked_by 0 l r.number ≡ looked_of f
+pub record_looked : {f : page.Found} {r : Record} → f ≡ Ok (Some r) → {l : ℕ} → l ≡ letter_of r.kind → looked_by 0 l r.number ≡ looked_of f
 record_looked {f} {r} e k = ap (λ (l : ℕ). looked_by 0 l r.number) k ∙ ap looked_of (sym e)
 
 -- A look that answers 0 found a record, whose code is the twenty bytes from three bytes after the offset on
@@ -71,10 +69,10 @@ pub looked_code : (bytes : List ℕ) (offset : ℕ) → (looked_of (page.look_at
     → page.code_at bytes offset ≡ take 20 (drop (offset + 3) bytes)
 looked_code bytes offset e = own (page.look_at bytes offset) e
   where
-    own : (f : Found) → (looked_of f).answer ≡ 0
+    own : (f : page.Found) → (looked_of f).answer ≡ 0
         → page.where_found f (take 20 (drop (offset + 3) bytes)) ≡ take 20 (drop (offset + 3) bytes)
-    own (found.Record r) k = refl
-    own found.End k = absurd (omega arith)
-    own found.Cut k = absurd (omega arith)
-    own found.Mark k = absurd (omega arith)
-    own found.Content k = absurd (omega arith)
+    own (Ok (Some r)) k = refl
+    own (Ok None) k = absurd (omega arith)
+    own (Err look.Cut) k = absurd (omega arith)
+    own (Err look.Mark) k = absurd (omega arith)
+    own (Err look.Content) k = absurd (omega arith)

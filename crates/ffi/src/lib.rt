@@ -17,11 +17,11 @@ ghost use Rattle.page.specs.Page.{writing_at, look_at};
 ghost use Rattle.lending.specs.Lending.{lends, lending, replays, replayed_into};
 ghost use Rattle.ffi.specs.Replies.{said, leaves, tells, looked_of};
 
-use code::Fields;
+use code::{Fields, ReadError};
 use ground::{Lat, Lon, Point, Rectangle};
 use lending::{Lent, LentReplay};
-use page::Found;
-use unit::Coded;
+use page::{LookError, Record};
+use unit::Refusal;
 
 // What coding and writing answer: 0 and 0, or the number and the place of a refusal.
 #[repr(C)]
@@ -31,7 +31,8 @@ pub struct Reply {
     pub place: u32,
 }
 
-// The kind of a unit by the listing's letter: `B` is a building, and every other byte is other kind.
+// The kind of a unit by the listing's letter: `B` is a building, and every other byte is other kind. It is a
+// letter, and the answers below are numbers, for C, which has no enums like Rattle's.
 #[repr(C)]
 #[derive(Drop)]
 pub struct Kind {
@@ -58,7 +59,7 @@ pub struct Looked {
 }
 
 // An answer of coding in numbers.
-fn coded(answer: Coded) -> Reply
+fn coded(answer: Result<(), Refusal>) -> Reply
     ensures { said result ≡ says answer }
 {
     Reply {
@@ -122,7 +123,7 @@ fn refused(reply: Reply) -> Reading
 }
 
 // An answer of reading in numbers.
-fn told(answer: code::Reading) -> Reading
+fn told(answer: Result<code::Reading, ReadError>) -> Reading
     ensures { tells result ≡ Code·tells answer }
 {
     let reply = Reply {
@@ -130,12 +131,12 @@ fn told(answer: code::Reading) -> Reading
         place: code::reading_place(answer),
     };
     match answer {
-        code::Reading::Accepted(fields, rectangle) => Reading {
+        Ok(reading) => Reading {
             reply,
-            fields,
-            rectangle,
+            fields: reading.fields,
+            rectangle: reading.rectangle,
         },
-        _ => refused(reply),
+        Err(_) => refused(reply),
     }
 }
 
@@ -240,24 +241,21 @@ fn letter_of(kind: entitlements::Kind) -> u32
 }
 
 // What is found, in numbers.
-fn seen(found: Found) -> Looked
+fn seen(found: Result<Option<Record>, LookError>) -> Looked
     ensures { result ≡ looked_of found }
 {
     match found {
-        Found::Record(record) => {
-            let kind = record.kind;
-            Looked {
-                answer: 0,
-                letter: letter_of(kind),
-                number: record.number,
-            }
-        }
-        Found::End => Looked {
+        Ok(Some(record)) => Looked {
+            answer: 0,
+            letter: letter_of(record.kind),
+            number: record.number,
+        },
+        Ok(None) => Looked {
             answer: 1,
             letter: 0,
             number: 0,
         },
-        _ => Looked {
+        Err(_) => Looked {
             answer: page::found_number(found),
             letter: 0,
             number: 0,
