@@ -25,41 +25,45 @@ const READ: usize = 32768;
 // Room for a reply to each byte of a read, which may all be line feeds.
 const WRITTEN: usize = READ * lines::REPLY;
 
+// What fails and ends the program: a read or a write.
+#[derive(Drop)]
+enum Failed {
+    Read(io::Error),
+    Write(io::Error),
+}
+
 fn main(rt: HostRuntime) {
     let mut input = [0u8; READ];
     let mut room = [0u8; lines::ROOM];
     let mut output = [0u8; WRITTEN];
-    run(&rt, &mut input, &mut room, &mut output);
+    match run(&rt, &mut input, &mut room, &mut output) {
+        Ok(()) => (),
+        Err(Failed::Read(e)) => say(&rt, "standard input", e),
+        Err(Failed::Write(e)) => say(&rt, "standard output", e),
+    }
 }
 
-// Reads until the input ends. Nothing says that it does, so the reads count down, from a number that
-// no run uses up. The room is longer than a line may be, as the law of the whole output asks.
-fn run(rt: &HostRuntime, input: &mut [u8], room: &mut [u8], output: &mut [u8])
+// Reads until the input ends. Nothing says that it does, so the reads are counted, up to a number that no
+// run uses up. The room is longer than a line may be, as the law of the whole output asks.
+fn run(rt: &HostRuntime, input: &mut [u8], room: &mut [u8], output: &mut [u8]) -> Result<(), Failed>
     requires input_nonzero { 0 < length input.old }
     requires longest_in_bounds { longest < length room.old }
     requires reply_most_in_bounds { length input.old * reply_most ≤ length output.old }
 {
     let mut line = Line { number: 1, len: 0 };
     let mut account = entitlements::empty();
-    let mut reads = u64::MAX;
-    while reads > 0 {
-        let n = match rt.stdin().read(input) {
-            Ok(n) => n,
-            Err(e) => return say(rt, "standard input", e),
-        };
+    for _ in 0..u64::MAX {
+        let n = rt.stdin().read(input).map_err(Failed::Read)?;
         if n == 0 {
             let put = reply_last(line, account, room, output);
-            write_out(rt, output, put);
-            return;
+            return write_out(rt, output, put);
         }
         let listed = reply_all(line, account, &input[..n], room, output);
-        if !write_out(rt, output, listed.put) {
-            return;
-        }
+        write_out(rt, output, listed.put)?;
         line = listed.line;
         account = listed.account;
-        reads -= 1;
     }
+    Ok(())
 }
 
 // The replies to the lines that end in the bytes of a read, all of them, at the start of the output.
@@ -85,17 +89,13 @@ fn reply_last(line: Line, account: Account, room: &[u8], output: &mut [u8]) -> u
     book::reply_last(line, account, room, output)
 }
 
-// Writes the first bytes of the output, or says that it cannot.
-fn write_out(rt: &HostRuntime, output: &[u8], count: usize) -> bool
+// Writes the first bytes of the output.
+fn write_out(rt: &HostRuntime, output: &[u8], count: usize) -> Result<(), Failed>
     requires { count ≤ length output.now }
 {
-    match rt.stdout().write_all(&output[..count]) {
-        Ok(()) => true,
-        Err(e) => {
-            say(rt, "standard output", e);
-            false
-        }
-    }
+    rt.stdout()
+        .write_all(&output[..count])
+        .map_err(Failed::Write)
 }
 
 // Says on standard error what failed; who closed a pipe wants no word. Where it cannot be written, nothing is

@@ -28,41 +28,54 @@ const WRITTEN: usize = READ * page::RECORD;
 
 const TOLD: usize = READ * lines::REPLY;
 
+// What fails and ends the program: a read, a write, or the telling of a line that has no record, of which
+// nothing can be told.
+#[derive(Drop)]
+enum Failed {
+    Read(io::Error),
+    Write(io::Error),
+    Tell(io::Error),
+}
+
 fn main(rt: HostRuntime) {
     let mut input = [0u8; READ];
     let mut room = [0u8; lines::ROOM];
     let mut output = [0u8; WRITTEN];
     let mut told = [0u8; TOLD];
-    run(&rt, &mut input, &mut room, &mut output, &mut told);
+    match run(&rt, &mut input, &mut room, &mut output, &mut told) {
+        Ok(()) => (),
+        Err(Failed::Read(e)) => say(&rt, "standard input", e),
+        Err(Failed::Write(e)) => say(&rt, "standard output", e),
+        Err(Failed::Tell(_)) => (),
+    }
 }
 
-// Reads until the input ends. Nothing says that it does, so the reads count down, from a number that
-// no run uses up. The room is longer than a line may be, as the law of the whole page asks.
-fn run(rt: &HostRuntime, input: &mut [u8], room: &mut [u8], output: &mut [u8], told: &mut [u8])
+// Reads until the input ends. Nothing says that it does, so the reads are counted, up to a number that no
+// run uses up. The room is longer than a line may be, as the law of the whole page asks.
+fn run(
+    rt: &HostRuntime,
+    input: &mut [u8],
+    room: &mut [u8],
+    output: &mut [u8],
+    told: &mut [u8],
+) -> Result<(), Failed>
     requires input_nonzero { 0 < length input.old }
     requires longest_in_bounds { longest < length room.old }
     requires record_length_in_bounds { length input.old * record_length ≤ length output.old }
     requires reply_most_in_bounds { length input.old * reply_most ≤ length told.old }
 {
     let mut line = Line { number: 1, len: 0 };
-    let mut reads = u64::MAX;
-    while reads > 0 {
-        let n = match rt.stdin().read(input) {
-            Ok(n) => n,
-            Err(e) => return say(rt, "standard input", e),
-        };
+    for _ in 0..u64::MAX {
+        let n = rt.stdin().read(input).map_err(Failed::Read)?;
         if n == 0 {
             let ends = record_last(line, room, output, told);
-            write_out(rt, output, ends.put, told, ends.told);
-            return;
+            return write_out(rt, output, ends.put, told, ends.told);
         }
         let recorded = record_all(line, &input[..n], room, output, told);
-        if !write_out(rt, output, recorded.put, told, recorded.told) {
-            return;
-        }
+        write_out(rt, output, recorded.put, told, recorded.told)?;
         line = recorded.line;
-        reads -= 1;
     }
+    Ok(())
 }
 
 // The records of the lines that end in the bytes of a read, all of them, at the start of the output, and
@@ -93,16 +106,21 @@ fn record_last(line: Line, room: &[u8], output: &mut [u8], told: &mut [u8]) -> E
     recording::record_last(line, room, output, told)
 }
 
-// Writes the first bytes of the output, or says that it cannot, and then the first of what is told.
-fn write_out(rt: &HostRuntime, output: &[u8], count: usize, told: &[u8], tells: usize) -> bool
+// Writes the first bytes of the output, and then the first of what is told.
+fn write_out(
+    rt: &HostRuntime,
+    output: &[u8],
+    count: usize,
+    told: &[u8],
+    tells: usize,
+) -> Result<(), Failed>
     requires count_in_bounds { count ≤ length output.now }
     requires tells_in_bounds { tells ≤ length told.now }
 {
-    if let Err(e) = rt.stdout().write_all(&output[..count]) {
-        say(rt, "standard output", e);
-        return false;
-    }
-    rt.stderr().write_all(&told[..tells]).is_ok()
+    rt.stdout()
+        .write_all(&output[..count])
+        .map_err(Failed::Write)?;
+    rt.stderr().write_all(&told[..tells]).map_err(Failed::Tell)
 }
 
 // Says on standard error what failed; who closed a pipe wants no word. Where it cannot be written, nothing is
