@@ -49,7 +49,12 @@ fn reply_unit(line: u64, unit: Unit, coordinates: &[u32], out: &mut [u8], at: us
     ensures { Put out.old at (reply_line line (code_said unit.letter unit.number coordinates.now)) result out.new }
 {
     let mut code = [0u8; 20];
-    let answer = quick::code(&mut code, coordinates, unit::kind_of(unit.letter), unit.number);
+    let answer = quick::code(
+        &mut code,
+        coordinates,
+        unit::kind_of(unit.letter),
+        unit.number,
+    );
     let refusal = unit::coded_number(answer);
     if refusal == 0 {
         return output::put_code(out, at, line, &code);
