@@ -215,6 +215,9 @@ module _ (digits most : ℕ) (line : List ℕ) (at : ℕ) where
       pick false h = refl
 
 module _ (line : List ℕ) (at : ℕ) where
+  pub number_short : {x : Option (ℕ × ℕ)} → within_at 10 4294967295 line at ≡ x → number_at line at ≡ x
+  number_short e = e
+
   pub found : (n end : ℕ) → number_at line at ≡ Some (n, end) → Found 10 4294967295 line at n end
   found n end m = within_found 10 4294967295 line at n end m
 
