@@ -60,7 +60,8 @@ fn post_line(number: u64, account: &Account, line: &[u8], out: &mut [u8], at: us
     }
 }
 
-// The reply to a line that is refused, which leaves the account as it was.
+// The reply to a line that is refused, which leaves the account as it was. The refusal comes as its number,
+// which is all that is put.
 fn refuse(account: &Account, out: &mut [u8], at: usize, number: u64, refusal: u32) -> Posted
     ensures step_value { result.step ≡ stays account.now.last account.now.total }
     ensures put { Put out.old at (reply_line number (refused refusal 0)) result.put out.new }

@@ -124,7 +124,7 @@ fn write_out(
 }
 
 // Says on standard error what failed; who closed a pipe wants no word. Where it cannot be written, nothing is
-// left to do.
+// left to do. Each program says it for itself: the rooms below read and write only what they are lent.
 fn say(rt: &HostRuntime, what: &str, e: io::Error) {
     if !matches!(e.kind(), io::ErrorKind::BrokenPipe) {
         let _ = eprintln!(rt; "journal: {what}: {e}");

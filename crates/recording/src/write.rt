@@ -71,7 +71,8 @@ fn write_message(
     }
 }
 
-// Tells the refusal of a line, for which nothing goes into the page.
+// Tells the refusal of a line, for which nothing goes into the page. It comes as its number, which is all that
+// is told.
 fn refuse(line: u64, refusal: u32, ends: Ends, told: &mut [u8]) -> Ends
     ensures put_value { result.put ≡ ends.put }
     ensures put { Put told.old ends.told (reply_line line (refused refusal 0)) result.told told.new }

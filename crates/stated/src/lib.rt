@@ -10,7 +10,8 @@ ghost use Rattle.stated.specs.Stated.{unit_said, coordinates_in, unit_after, coo
 use lines::starts;
 use numbers::{number_at, numbers_at};
 
-// A unit: the letter of its kind, its number, and how many coordinates it has.
+// A unit: the letter of its kind, its number, and how many coordinates it has. The letter is a byte, since the
+// kinds stand in `unit`, of which this room knows nothing.
 #[derive(Clone, Copy)]
 pub struct Unit {
     pub letter: u8,

@@ -31,7 +31,7 @@ pub(crate) fn answer_total(text: &[u8], out: &mut Outgoing) -> Option<()> {
 fn answer_message(kind: Kind, text: &[u8], out: &mut Outgoing) -> Option<()> {
     let (number, end) = numbers::long_at(text, 10)?;
     let (account, end) = account_at(text, end)?;
-    let start = after_blank(text, end)?;
+    let start = past_space(text, end)?;
     let answered = message::send(kind, account, &text[start..], number);
     put_answer(answered.answer, out);
     put_account(&answered.account, out);
@@ -39,7 +39,7 @@ fn answer_message(kind: Kind, text: &[u8], out: &mut Outgoing) -> Option<()> {
 }
 
 // The position after the space that stands at a position.
-pub(crate) fn after_blank(text: &[u8], at: usize) -> Option<usize>
+pub(crate) fn past_space(text: &[u8], at: usize) -> Option<usize>
     ensures { IfSome result (λ start. start ≤ length text.now) }
 {
     if at < text.len() && text[at] == b' ' {
@@ -49,15 +49,15 @@ pub(crate) fn after_blank(text: &[u8], at: usize) -> Option<usize>
 }
 
 // The number that stands after one space at a position, and the position after it.
-pub(crate) fn after_space(text: &[u8], at: usize) -> Option<(u64, usize)> {
-    numbers::long_at(text, after_blank(text, at)?)
+pub(crate) fn number_after_space(text: &[u8], at: usize) -> Option<(u64, usize)> {
+    numbers::long_at(text, past_space(text, at)?)
 }
 
 // The account that stands at a position, and the position after it.
 fn account_at(text: &[u8], at: usize) -> Option<(Account, usize)> {
-    let (last, end) = after_space(text, at)?;
-    let (total, end) = after_space(text, end)?;
-    let (count, end) = after_space(text, end)?;
+    let (last, end) = number_after_space(text, at)?;
+    let (total, end) = number_after_space(text, end)?;
+    let (count, end) = number_after_space(text, end)?;
     let mut account = Account {
         last,
         total,
@@ -82,13 +82,13 @@ fn fill(count: u64, text: &[u8], from: usize, account: &mut Account) -> Option<u
 // Fills in one place, from a lowest one that may come on, and says the lowest that may come next, and the
 // position after it.
 fn fill_place(least: u64, text: &[u8], at: usize, account: &mut Account) -> Option<(u64, usize)> {
-    let (place, end) = after_space(text, at)?;
+    let (place, end) = number_after_space(text, at)?;
     if place < least || place >= PLACES as u64 {
         return None;
     }
-    let (active, end) = after_space(text, end)?;
-    let (high, end) = after_space(text, end)?;
-    let (low, end) = after_space(text, end)?;
+    let (active, end) = number_after_space(text, end)?;
+    let (high, end) = number_after_space(text, end)?;
+    let (low, end) = number_after_space(text, end)?;
     account.active[place as usize] = active;
     account.high[place as usize] = high;
     account.low[place as usize] = low;

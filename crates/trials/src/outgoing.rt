@@ -7,7 +7,7 @@ const BUFFER: usize = 65536;
 #[derive(Drop)]
 pub(crate) struct Outgoing {
     bytes: [u8; BUFFER],
-    waiting: usize,
+    len: usize,
 }
 
 impl Outgoing {
@@ -15,33 +15,33 @@ impl Outgoing {
     pub(crate) fn empty() -> Outgoing {
         Outgoing {
             bytes: [0; BUFFER],
-            waiting: 0,
+            len: 0,
         }
     }
 
     // The bytes that wait.
     pub(crate) fn waiting(&self) -> &[u8] {
-        &self.bytes[..self.waiting.min(BUFFER)]
+        &self.bytes[..self.len.min(BUFFER)]
     }
 
     // How many more bytes can be put.
     pub(crate) fn left(&self) -> usize {
-        BUFFER.saturating_sub(self.waiting)
+        BUFFER.saturating_sub(self.len)
     }
 
     // Takes out what waits.
     pub(crate) fn clear(&mut self) {
-        self.waiting = 0;
+        self.len = 0;
     }
 
     // Puts a text behind what waits, as much as fits.
     pub(crate) fn put(&mut self, text: &[u8]) {
-        self.waiting = room::put(&mut self.bytes, self.waiting, text);
+        self.len = room::put(&mut self.bytes, self.len, text);
     }
 
     // Puts the decimal spelling of a number.
     pub(crate) fn put_decimal(&mut self, n: u64) {
-        self.waiting = output::put_decimal(&mut self.bytes, self.waiting, n);
+        self.len = output::put_decimal(&mut self.bytes, self.len, n);
     }
 
     // Puts a number after a space.

@@ -3,7 +3,7 @@
 // line's end.
 ghost use Rattle.std.specs.Prelude.{◌≤◌, ◌*◌, length, IfSome};
 
-use crate::accounts::{after_blank, after_space, put_account};
+use crate::accounts::{number_after_space, past_space, put_account};
 use crate::outgoing::Outgoing;
 use entitlements::Kind;
 use page::Record;
@@ -28,10 +28,10 @@ pub(crate) fn answer_record(text: &[u8], out: &mut Outgoing) -> Option<()> {
 
 fn record(kind: Kind, text: &[u8], out: &mut Outgoing) -> Option<()> {
     let (number, end) = numbers::long_at(text, 9)?;
-    let (offset, end) = after_space(text, end)?;
+    let (offset, end) = number_after_space(text, end)?;
     let mut room = [0u8; MOST];
     let (len, end) = page_at(text, end, &mut room)?;
-    let start = after_blank(text, end)?;
+    let start = past_space(text, end)?;
     let page = &mut room[..len];
     let answer = page::write_at(page, offset as usize, kind, &text[start..], number);
     out.put_decimal(page::written_number(answer) as u64);
@@ -138,7 +138,7 @@ fn fill(digits: &[u8], page: &mut [u8]) -> usize
 fn page_at(text: &[u8], at: usize, page: &mut [u8]) -> Option<(usize, usize)>
     ensures { IfSome result (λ stated. stated.0 ≤ length page.new) }
 {
-    let start = after_blank(text, at)?;
+    let start = past_space(text, at)?;
     let len = fill(&text[start..], page);
     if len > 0 {
         return ended(text, len, start + 2 * len);
