@@ -10,7 +10,7 @@ at, and the page says which stay and why. It goes by text:
 1c  a number for a kind or a refusal: a field or parameter called so that is a number
 1d  a number for "none": a function whose comment says that it answers one
 2a  functions of one crate that are the same text but for names, types and numbers; 2b  structs of all crates likewise
-3   a `while` whose condition reads what its body counts up or down by one
+3   a `while` whose condition reads what its body counts up or down by one, and a `loop` that counts so
 4   equality, order, copying, conversion and printing by hand: functions with the names below
 5a  a fact that three or more functions of a crate require; 5b  three or more parameters that three functions share
 6a  an output with a position beside it; 6b  a room with a length beside it; 6c  parallel arrays
@@ -100,8 +100,10 @@ def main():
                 alike[crate, shape(head.split("\n    ensures")[0].split("\n    requires")[0] + body)].append(where)
             for found in re.finditer(r"while ([^\n]*) \{\n(.*?)\n    \}", body, re.S):
                 counts = re.findall(r"(?m)^\s+(\w+) [+-]= 1;", found[2])
-                if any(re.search(rf"\b{count}\b", found[1]) for count in counts):
+                if not found[1].startswith("let ") and any(re.search(rf"\b{count}\b", found[1]) for count in counts):
                     places["3"].append(f"{where}: while {found[1]}")
+            if re.search(r"(?m)\bloop \{$", body) and re.search(r"(?m)^\s+\w+ [+-]= 1;", body):
+                places["3"].append(f"{where}: loop")
             if BY_HAND.match(name):
                 places["4"].append(where)
             for fact in re.findall(r"requires (?:\w+ )?\{ (.*) \}", head):
